@@ -1,0 +1,6 @@
+pub mod Counting
+pub mod Closing
+pub mod Meeting
+pub mod Running
+pub mod Theorems
+pub mod Cases

@@ -1,0 +1,6 @@
+pub mod Model
+pub mod Rounds
+pub mod Run
+pub mod Published
+pub mod Promises
+pub mod Cases

@@ -1,0 +1,40 @@
+-- What a model and a trace are, as lists of numbers (document 01, "Closure, step, goal" and "File layouts").
+use Prim.Native.Nat.{ℕ}
+use mathlib.Core.List.{List, []}
+use lib.ListN.{getD}
+
+-- "A clause is its head and then the body facts"
+pub record Clause : Type 0 where
+  pub head : ℕ
+  pub body : List ℕ
+
+-- "A rule has positive conditions P, negative conditions N and added facts A."
+pub record Rule : Type 0 where
+  pub P : List ℕ
+  pub N : List ℕ
+  pub A : List ℕ
+
+-- "An attack state has P and N."
+pub record Goal : Type 0 where
+  pub P : List ℕ
+  pub N : List ℕ
+
+-- "Model sections, in order": the fact count F, initial facts, clauses, rules, attack states
+pub record Model : Type 0 where
+  pub F : ℕ
+  pub initial : List ℕ
+  pub clauses : List Clause
+  pub rules : List Rule
+  pub goals : List Goal
+
+-- "an attack state number and then rule numbers"
+pub record Trace : Type 0 where
+  pub goal : ℕ
+  pub steps : List ℕ
+
+-- "Records are numbered from 0.": the rule and the attack state of a number; one with empty lists where the model lacks it
+unfoldable pub ruleOf : Model → ℕ → Rule
+ruleOf m k = getD (m .rules) k (record { P = []; N = []; A = [] })
+
+unfoldable pub goalOf : Model → ℕ → Goal
+goalOf m g = getD (m .goals) g (record { P = []; N = [] })

@@ -1,0 +1,76 @@
+-- `records::clause_number` meets its contract: the head and the body are two more lists after the marks at the start.
+use mathlib.Core.Path.{_∙_, sym, ap}
+use mathlib.Core.List.{[], _∷_}
+use mathlib.Core.Option.{some}
+use mathlib.Core.Logic.{⊎-elim}
+use native.Mathlib.Omega.{arith}
+use lib.ListN.{take, drop, length-take}
+use denote.Ref.{now}
+use borrow.Author.Tests.{lt-ltb, le-ltb}
+use Rattle.records.specs.Words.{words}
+use Rattle.records.specs.Answers.{code, pickedOf}
+use Rattle.records.proofs.Sections.{rest-of}
+use Rattle.records.proofs.Lists.{clause-tests, picked-end, picked-more}
+use borrow.Author.Needs.{needs}
+use Rattle.records.proofs.clause_number.Statement.{statement}
+use Rattle.records.proofs.clause_number.Tie as tie
+
+returns : tie.Need-returns
+unfolding code pickedOf
+returns c =
+    let body = now (c .before .before .args .body) in
+    rw clause-tests
+    (⊎-elim
+    (λ w. rw (lt-ltb _ _ (w .taken)))
+    (λ w. rw (le-ltb _ _ (w .0 .left), w .1 .taken))
+    (c .if1 .came))
+
+slice-aggregate-mark-list : tie.Need-slice-aggregate-mark-list
+slice-aggregate-mark-list c = rw length-take (omega arith)
+
+mark-list-requires : tie.Need-mark-list-requires
+mark-list-requires c κs = search needs
+
+sub-mark-list : tie.Need-sub-mark-list
+sub-mark-list c = search needs
+
+part-mark-list-start : tie.Need-part-mark-list-start
+part-mark-list-start c = search needs
+
+part-mark-list-end : tie.Need-part-mark-list-end
+part-mark-list-end c = search needs
+
+mark-list-requires-2 : tie.Need-mark-list-requires-2
+mark-list-requires-2 c κs = search needs
+
+pick-requires : tie.Need-pick-requires
+pick-requires c κs = search needs
+
+returns-2 : tie.Need-returns-2
+returns-2 c =
+    let tested = c .before .before .before .before .before in
+    let args = tested .before .before .before .args in
+    let body = now (args .body) in
+    let head = c .before .before .before .mark-list in
+    let facts = c .before .mark-list2 in
+    rw (clause-tests, le-ltb _ _ (tested .before .if1 .left), tested .if2 .left)
+    (c .pick .ensures
+    ∙ ap code
+    (sym
+    (picked-more (args .longest) (args .facts) (args .marks) (head .result) (take 2 body) (head .ensures) (some (words (drop 2 body) ∷ []))
+    ∙ picked-more (args .longest) (args .facts) (head .result) (facts .result) (drop 2 body) (rw rest-of at (facts .ensures)) (some [])
+    ∙ picked-end (args .longest) (args .facts) (facts .result))))
+
+pub clause-number-spec : {M : Type 1} → statement M
+clause-number-spec =
+    tie.close
+    (tie.spec
+    returns
+    slice-aggregate-mark-list
+    mark-list-requires
+    sub-mark-list
+    part-mark-list-start
+    part-mark-list-end
+    mark-list-requires-2
+    pick-requires
+    returns-2)

@@ -1,0 +1,134 @@
+-- Records, the lists in them, and the first fault of a section of records (document 01, "File layouts", "Bounds" and "the order").
+use Prim.Native.Nat.{ℕ, zero, suc, _+_, _*_}
+use mathlib.Core.Bool.{Bool, true, false, not, _&&_, _||_, cond}
+use mathlib.Core.List.{List, [], _∷_}
+use mathlib.Core.Option.{Option, none, some, Option·map, Option·getD}
+use lib.Dec.{leb, ltb, eqb}
+use lib.ListN.{length, take, drop, getD}
+use Rattle.sets.specs.Sets.{any}
+use Rattle.records.specs.Words.{word, words, odd, ascending}
+use Rattle.records.specs.declared.Kind.{Kind}
+use Rattle.records.specs.declared.Kind.the-variants.{Clause, Rule, Goal}
+
+infixr 25 _orElse_
+-- ---- the first of several faults
+
+-- x where the test holds
+unfoldable pub given {ℓ} : {A : Type ℓ} → Bool → A → Option A
+given true x = some x
+given false x = none
+
+-- the first where there is one, otherwise the second
+unfoldable pub _orElse_ {ℓ} : {A : Type ℓ} → Option A → Option A → Option A
+some x orElse y = some x
+none orElse y = y
+
+-- a fault: 01's number, and the bytes at fault by their place and length
+pub record Fault : Type 0 where
+  pub number : ℕ
+  pub start : ℕ
+  pub size : ℕ
+
+-- ---- records
+
+-- "A record is a 2-byte length and that many bytes.": the one at the start of these bytes, with its length; "where a record's length doesn't fit: the rest"
+unfoldable pub recordOf : List ℕ → List ℕ
+unfolding word
+recordOf bytes = cond (leb (2 + word bytes) (length bytes)) (take (2 + word bytes) bytes) bytes
+
+-- the record is whole: its length fitted
+unfoldable pub whole : List ℕ → Bool
+unfolding word
+whole r = eqb (length r) (2 + word r)
+
+-- the records of a section, in order; each takes a byte at least, so the section's length is enough turns
+unfoldable pub recordsIn : ℕ → List ℕ → List (List ℕ)
+unfolding recordOf
+recordsIn zero bytes = []
+recordsIn (suc turns) [] = []
+recordsIn (suc turns) (b ∷ bytes) = recordOf (b ∷ bytes) ∷ recordsIn turns (drop (length (recordOf (b ∷ bytes))) (b ∷ bytes))
+
+unfoldable pub records : List ℕ → List (List ℕ)
+unfolding recordsIn
+records section = recordsIn (length section) section
+
+-- ---- the lists of a record
+
+-- "A list is a 2-byte count and that many facts. Lists fill the record exactly.": the k lists that these bytes are, if they are
+unfoldable pub cutLists : ℕ → List ℕ → Option (List (List ℕ))
+unfolding word words
+cutLists zero [] = some []
+cutLists zero (b ∷ bytes) = none
+cutLists (suc k) bytes =
+    cond (leb (2 + 2 * word bytes) (length bytes))
+    (Option·map (λ rest. words (take (2 * word bytes) (drop 2 bytes)) ∷ rest) (cutLists k (drop (2 + 2 * word bytes) bytes)))
+    none
+
+-- "A clause is its head and then the body facts, 2 bytes each.": the head as a list by itself, and the body
+unfoldable pub cutClause : List ℕ → Option (List (List ℕ))
+unfolding word words odd
+cutClause bytes = cond (odd bytes || ltb (length bytes) 2) none (some ((word bytes ∷ []) ∷ words (drop 2 bytes) ∷ []))
+
+-- "A rule is three lists P, N, A; an attack state two, P and N."
+unfoldable pub cut : Kind → List ℕ → Option (List (List ℕ))
+unfolding cutClause cutLists
+cut Clause = cutClause
+cut Rule = cutLists 3
+cut Goal = cutLists 2
+
+-- the lists of a record, if its length fits and they fill it
+unfoldable pub listsOf : Kind → List ℕ → Option (List (List ℕ))
+unfolding whole cut
+listsOf K r = cond (whole r) (cut K (drop 2 r)) none
+
+-- a record's list number j; empty where there is none
+unfoldable pub listOf : Kind → List ℕ → ℕ → List ℕ
+unfolding listsOf
+listOf K r j = getD (Option·getD (listsOf K r) []) j []
+
+-- ---- judging
+
+-- "Clauses 4,096 .. Rules 2,048, attack states 64"
+unfoldable pub most : Kind → ℕ
+most Clause = 4096
+most Rule = 2048
+most Goal = 64
+
+-- "body facts 16 .. each list 32"
+unfoldable pub longest : Kind → ℕ
+longest Clause = 16
+longest Rule = 32
+longest Goal = 32
+
+-- "Within a record 4 comes before 5, 5 before 6, 6 before 7; a record beyond the section's bound is judged for 4 and then is 5.": record n of its section, in a model of F facts
+unfoldable pub judge : Kind → ℕ → ℕ → List ℕ → Option ℕ
+unfolding listsOf given _orElse_ most longest any ascending
+judge K F n r =
+    elim (listsOf K r) [
+      | none ↦ some 4
+      | some lists ↦
+          given (leb (most K) n || any (λ l. ltb (longest K) (length l)) lists) 5
+          orElse given (any (any (leb F)) lists) 6
+          orElse given (any (λ l. not (ascending l)) lists) 7
+    ]
+
+-- "Sizes and initial facts count as one record each": bare numbers, which fill the bytes, are below F and strictly ascending
+unfoldable pub bare : ℕ → List ℕ → Option ℕ
+unfolding given _orElse_ odd any words ascending
+bare F bytes = given (odd bytes) 4 orElse given (any (leb F) (words bytes)) 6 orElse given (not (ascending (words bytes))) 7
+
+-- the first record, in file order, that a judge refuses: record n stands at place `at`
+unfoldable pub firstFrom : (ℕ → List ℕ → Option ℕ) → ℕ → ℕ → List (List ℕ) → Option Fault
+firstFrom refuses n at [] = none
+firstFrom refuses n at (r ∷ rs) =
+    elim (refuses n r) [ some k ↦ some (record { number = k; start = at; size = length r }) | none ↦ firstFrom refuses (suc n) (at + length r) rs ]
+
+-- the first fault of a section of records
+unfoldable pub firstFault : (ℕ → List ℕ → Option ℕ) → List ℕ → Option Fault
+unfolding firstFrom records
+firstFault refuses section = firstFrom refuses 0 0 (records section)
+
+-- "a clause head in an N": the facts of the list with number 1
+unfoldable pub negated : Kind → (ℕ → Bool) → ℕ → List ℕ → Option ℕ
+unfolding given any listOf
+negated K isHead n r = given (any isHead (listOf K r 1)) 8

@@ -1,0 +1,294 @@
+// Reads records out of a lent section: where each starts, what is wrong with it, and the lists in it.
+ghost use mathlib.Core.Path.{_≡_};
+ghost use mathlib.Core.Bool.{not, _||_};
+ghost use mathlib.Core.Option.{some};
+ghost use Prim.Native.Nat.{_+_, _<_, _≤_};
+ghost use lib.Dec.{leb, ltb};
+ghost use lib.ListN.{length, drop};
+ghost use Rattle.sets.specs.Sets.{any, listed};
+ghost use Rattle.records.specs.Words.{word, words, ascending};
+ghost use Rattle.records.specs.Records.{recordOf, records, listOf, bare, judge, negated, firstFault, cutLists, cutClause, listsOf, longest, most};
+ghost use Rattle.records.specs.Answers.{code, found, headIn, placeOf, Marked, picked, pickedOf, before, AllCut, Cut, listCount, ListBytes};
+
+// The three kinds of records.
+pub enum Kind {
+    Clause,
+    Rule,
+    Goal,
+}
+
+// What a section of records is: fine, with so many records, or at fault, with document 01's number and the bytes.
+pub enum Found {
+    Fine(usize),
+    Fault {
+        number: u8,
+        start: usize,
+        size: usize,
+    },
+}
+
+// Which faults a record's lists have shown so far.
+struct Marks {
+    count: bool,
+    fact: bool,
+    order: bool,
+}
+
+fn wide(x: u8) -> usize
+    ensures { λ r. ⌜ r ≡ x ⌝ }
+{
+    x as usize
+}
+
+// The 2-byte number at a place. The caller has seen that both bytes are there.
+pub fn word_at(bytes: &[u8], at: usize) -> usize
+    requires { ⌜ at + 2 ≤ length (now bytes) ⌝ }
+    ensures { λ r. ⌜ r ≡ word (drop at (now (bytes .entry))) ⌝ }
+{
+    let high = wide(bytes[at]);
+    let low = wide(bytes[at + 1]);
+    high * 256 + low
+}
+
+// The record at a place of the section, with its length; the rest of the section where that length doesn't fit.
+pub fn record_at(section: &[u8], at: usize) -> &[u8]
+    ensures { λ r. ⌜ now r ≡ recordOf (drop at (now (section .entry))) ⌝ }
+{
+    if section.len() <= at {
+        return &section[section.len()..];
+    }
+    let rest = &section[at..];
+    if rest.len() < 2 {
+        return rest;
+    }
+    let size = word_at(rest, 0);
+    if size <= rest.len() - 2 {
+        &rest[0..size + 2]
+    } else {
+        rest
+    }
+}
+
+// The marks with those of one more list.
+fn mark_list(list: &[u8], longest: usize, facts: usize, marks: Marks) -> Marks
+    ensures { λ r. ⌜ Marked (now (list .entry)) longest facts marks r ⌝ }
+{
+    let mut fact = marks.fact;
+    let mut order = marks.order;
+    let mut floor = 0;
+    let mut at = 0;
+    while 2 <= list.len() - at {
+        let f = word_at(list, at);
+        if facts <= f {
+            fact = true;
+        }
+        if f < floor {
+            order = true;
+        }
+        floor = f + 1;
+        at += 2;
+    }
+    Marks {
+        count: marks.count || longest < list.len() / 2,
+        fact,
+        order,
+    }
+}
+
+// Document 01's number for the marks, the first that applies; 0 for none.
+fn pick(marks: Marks) -> u8
+    ensures { λ r. ⌜ r ≡ code (picked marks) ⌝ }
+{
+    if marks.count {
+        5
+    } else if marks.fact {
+        6
+    } else if marks.order {
+        7
+    } else {
+        0
+    }
+}
+
+// The number for a section of bare numbers: 4, 6 or 7, or 0.
+pub fn numbers_number(bytes: &[u8], facts: usize) -> u8
+    ensures { λ r. ⌜ r ≡ code (bare facts (now (bytes .entry))) ⌝ }
+{
+    if bytes.len() % 2 == 1 {
+        return 4;
+    }
+    let marks = mark_list(bytes, bytes.len(), facts, beyond(1, 0));
+    pick(marks)
+}
+
+// The number for a rule's or an attack state's lists, after some marks.
+fn lists_number(body: &[u8], lists: usize, longest: usize, facts: usize, marks: Marks) -> u8
+    ensures { λ r. ⌜ r ≡ code (pickedOf longest facts marks (cutLists lists (now (body .entry)))) ⌝ }
+{
+    let mut marks = marks;
+    let mut at = 0;
+    let mut left = lists;
+    while 0 < left {
+        if body.len() - at < 2 {
+            return 4;
+        }
+        let size = word_at(body, at) * 2;
+        let start = at + 2;
+        if body.len() - start < size {
+            return 4;
+        }
+        at = start + size;
+        marks = mark_list(&body[start..at], longest, facts, marks);
+        left -= 1;
+    }
+    if at < body.len() {
+        return 4;
+    }
+    pick(marks)
+}
+
+// The number for a clause's head and body, after some marks.
+fn clause_number(body: &[u8], longest: usize, facts: usize, marks: Marks) -> u8
+    ensures { λ r. ⌜ r ≡ code (pickedOf longest facts marks (cutClause (now (body .entry)))) ⌝ }
+{
+    if body.len() < 2 || body.len() % 2 == 1 {
+        return 4;
+    }
+    let marks = mark_list(&body[..2], longest, facts, marks);
+    let marks = mark_list(&body[2..], longest, facts, marks);
+    pick(marks)
+}
+
+// The number for record n of its section: 4 to 7, or 0 where nothing is wrong with it.
+fn record_number(whole: &[u8], kind: Kind, n: usize, facts: usize) -> u8
+    ensures { λ r. ⌜ r ≡ code (judge kind facts n (now (whole .entry))) ⌝ }
+{
+    if whole.len() < 2 {
+        return 4;
+    }
+    let size = word_at(whole, 0);
+    let body = &whole[2..];
+    if size != body.len() {
+        return 4;
+    }
+    match kind {
+        Kind::Clause => clause_number(body, 16, facts, beyond(4096, n)),
+        Kind::Rule => lists_number(body, 3, 32, facts, beyond(2048, n)),
+        Kind::Goal => lists_number(body, 2, 32, facts, beyond(64, n)),
+    }
+}
+
+// The marks before a record's lists are looked at: whether record n is beyond its section's bound.
+fn beyond(most: usize, n: usize) -> Marks
+    ensures { λ r. ⌜ r ≡ before most n ⌝ }
+{
+    Marks {
+        count: most <= n,
+        fact: false,
+        order: false,
+    }
+}
+
+// The first fault of a section of records, or how many records it has.
+pub fn first_fault(section: &[u8], kind: Kind, facts: usize) -> Found
+    ensures { λ r. ⌜ r ≡ found (firstFault (judge kind facts) (now (section .entry))) (length (records (now (section .entry)))) ⌝ }
+{
+    let mut at = 0;
+    let mut n = 0;
+    while at < section.len() {
+        let record = record_at(section, at);
+        let number = record_number(record, kind, n, facts);
+        if number != 0 {
+            return Found::Fault {
+                number,
+                start: at,
+                size: record.len(),
+            };
+        }
+        at += record.len();
+        n += 1;
+    }
+    Found::Fine(n)
+}
+
+// Where record n of the section starts; the section's end where it has no such record.
+pub fn place(section: &[u8], n: usize) -> usize
+    ensures { λ r. ⌜ r ≡ placeOf n (records (now (section .entry))) ⌝ }
+{
+    let mut at = 0;
+    let mut left = n;
+    while 0 < left && at < section.len() {
+        let record = record_at(section, at);
+        at += record.len();
+        left -= 1;
+    }
+    at
+}
+
+// The bytes of list j of a rule or an attack state. The caller has judged the record.
+pub fn list_of(whole: &[u8], kind: Kind, j: usize) -> &[u8]
+    requires { ⌜ Cut kind (now whole) × (j < listCount kind) ⌝ }
+    ensures { λ r. ⌜ ListBytes kind (now (whole .entry)) j (now r) ⌝ }
+{
+    let mut at = 2;
+    let mut left = j;
+    while 0 < left {
+        at += 2 + word_at(whole, at) * 2;
+        left -= 1;
+    }
+    let start = at + 2;
+    let end = start + word_at(whole, at) * 2;
+    &whole[start..end]
+}
+
+// Whether some fact of the list is the head of a clause. The caller has judged the clauses.
+fn has_head(list: &[u8], clauses: &[u8]) -> bool
+    requires { ⌜ AllCut Kind.Clause (now clauses) ⌝ }
+    ensures { λ r. ⌜ r ≡ any (headIn (now (clauses .entry))) (words (now (list .entry))) ⌝ }
+{
+    let mut at = 0;
+    while at < clauses.len() {
+        let record = record_at(clauses, at);
+        if in_list(list, word_at(record, 2)) {
+            return true;
+        }
+        at += record.len();
+    }
+    false
+}
+
+// Whether the fact is one of the list's.
+fn in_list(list: &[u8], f: usize) -> bool
+    ensures { λ r. ⌜ r ≡ listed (words (now (list .entry))) f ⌝ }
+{
+    let mut at = 0;
+    while 2 <= list.len() - at {
+        if word_at(list, at) == f {
+            return true;
+        }
+        at += 2;
+    }
+    false
+}
+
+// The first record with a clause's head in its N, or how many records the section has. The caller has judged both sections.
+pub fn first_negated(section: &[u8], kind: Kind, clauses: &[u8]) -> Found
+    requires { ⌜ AllCut kind (now section) × (1 < listCount kind) × AllCut Kind.Clause (now clauses) ⌝ }
+    ensures { λ r. ⌜ r ≡ found (firstFault (negated kind (headIn (now (clauses .entry)))) (now (section .entry))) (length (records (now (section .entry)))) ⌝ }
+{
+    let mut at = 0;
+    let mut n = 0;
+    while at < section.len() {
+        let record = record_at(section, at);
+        if has_head(list_of(record, kind, 1), clauses) {
+            return Found::Fault {
+                number: 8,
+                start: at,
+                size: record.len(),
+            };
+        }
+        at += record.len();
+        n += 1;
+    }
+    Found::Fine(n)
+}

@@ -1,0 +1,542 @@
+//! Random pairs for comparing programs: sound ones whose steps run, and damaged ones.
+//! A pair depends on its seed and index alone, so any one of a stream can be made again.
+
+use crate::read::{Attack, Clause, Model, Rule};
+use crate::{STATE_BYTES, TABLE_ENTRIES};
+
+/// Splitmix64.
+pub struct Rng(u64);
+
+impl Rng {
+    pub fn new(seed: u64, index: u64) -> Rng {
+        Rng(Rng(seed).draw() ^ index.wrapping_mul(0xD1B5_4A32_D192_ED03))
+    }
+    pub fn draw(&mut self) -> u64 {
+        self.0 = self.0.wrapping_add(0x9E37_79B9_7F4A_7C15);
+        let z = (self.0 ^ (self.0 >> 30)).wrapping_mul(0xBF58_476D_1CE4_E5B9);
+        let z = (z ^ (z >> 27)).wrapping_mul(0x94D0_49BB_1331_11EB);
+        z ^ (z >> 31)
+    }
+    /// Below `n`, or 0 when there is nothing below it.
+    pub fn below(&mut self, n: usize) -> usize {
+        (((self.draw() >> 32) * n as u64) >> 32) as usize
+    }
+    fn one_in(&mut self, n: usize) -> bool {
+        self.below(n) == 0
+    }
+    fn of(&mut self, choices: &[usize]) -> usize {
+        choices[self.below(choices.len())]
+    }
+}
+
+/// Two files and how much buffer they are to be checked with.
+#[derive(Clone, Debug, PartialEq, Eq)]
+pub struct Pair {
+    pub model: Vec<u8>,
+    pub trace: Vec<u8>,
+    pub state_len: usize,
+    pub table_len: usize,
+}
+
+impl Pair {
+    /// Buffers full of leftovers, so that what isn't written shows.
+    pub fn buffers(&self, seed: u64, index: u64) -> (Vec<u8>, Vec<u16>) {
+        let junk = Rng::new(!seed, index).draw();
+        let state = (0..self.state_len).map(|i| (junk >> (i % 57)) as u8).collect();
+        let table = (0..self.table_len).map(|i| (junk >> (i % 49)) as u16).collect();
+        (state, table)
+    }
+}
+
+/// The mixed stream: a bit under half sound, the rest damaged, now and then too little room.
+pub fn pair(seed: u64, index: u64) -> Pair {
+    let mut rng = Rng::new(seed, index);
+    let (model, trace) = if rng.below(100) < 45 { sound_files(&mut rng) } else { damage(&mut rng) };
+    let (mut state_len, mut table_len) = (STATE_BYTES, TABLE_ENTRIES);
+    match rng.below(150) {
+        0 => state_len = rng.of(&[0, 1, 256, 510, 511]),
+        1 => table_len = rng.of(&[0, 1, 512, 4_094, 4_095]),
+        2 => (state_len, table_len) = (511, 4_095),
+        _ => (state_len, table_len) = (512 + rng.of(&[0, 1, 64]), 4_096 + rng.of(&[0, 1, 64])),
+    }
+    Pair { model, trace, state_len, table_len }
+}
+
+/// Only pairs that ATTACK, BLOCKED or NOATTACK answers.
+pub fn sound(seed: u64, index: u64) -> Pair {
+    roomy(sound_files(&mut Rng::new(seed, index)))
+}
+
+/// Only pairs that were meddled with; a few of them stay well-formed all the same.
+pub fn damaged(seed: u64, index: u64) -> Pair {
+    roomy(damage(&mut Rng::new(seed, index)))
+}
+
+fn roomy((model, trace): (Vec<u8>, Vec<u8>)) -> Pair {
+    Pair { model, trace, state_len: STATE_BYTES, table_len: TABLE_ENTRIES }
+}
+
+/// A starting state for closing by itself; one in eight has a bit from F on if F leaves any.
+pub fn start_state(seed: u64, index: u64, facts: usize) -> Vec<u8> {
+    let mut rng = Rng::new(seed ^ 0x57A7E, index);
+    let mut state = vec![0; STATE_BYTES + rng.of(&[0, 0, 1, 40])];
+    state[STATE_BYTES..].fill(rng.draw() as u8);
+    let count = rng.below(facts.min(12) + 1);
+    let mut chosen: Vec<usize> = (0..count).map(|_| rng.below(facts)).collect();
+    if facts < 4_096 && rng.one_in(8) {
+        chosen.push(facts + rng.one_in(2) as usize * rng.below(4_096 - facts));
+    }
+    chosen.iter().for_each(|f| state[f / 8] |= 1 << (f % 8));
+    state
+}
+
+// Writers. They write what they are given, faults included.
+
+pub fn write_model(model: &Model) -> Vec<u8> {
+    let mut out = vec![1];
+    section(&mut out, |out| word(out, model.facts as usize));
+    section(&mut out, |out| words(out, &model.initial));
+    section(&mut out, |out| {
+        for c in &model.clauses {
+            word(out, 2 + 2 * c.body.len());
+            word(out, c.head as usize);
+            words(out, &c.body);
+        }
+    });
+    section(&mut out, |out| model.rules.iter().for_each(|r| lists(out, &[&r.pos, &r.neg, &r.add])));
+    section(&mut out, |out| model.attacks.iter().for_each(|a| lists(out, &[&a.pos, &a.neg])));
+    out
+}
+
+pub fn write_trace(goal: u16, steps: &[u16]) -> Vec<u8> {
+    let mut out = vec![1];
+    section(&mut out, |out| {
+        word(out, goal as usize);
+        words(out, steps);
+    });
+    out
+}
+
+fn section(out: &mut Vec<u8>, fill: impl FnOnce(&mut Vec<u8>)) {
+    let at = out.len();
+    out.extend([0; 4]);
+    fill(out);
+    let len = (out.len() - at - 4) as u32;
+    out[at..at + 4].copy_from_slice(&len.to_be_bytes());
+}
+
+fn lists(out: &mut Vec<u8>, lists: &[&Vec<u16>]) {
+    word(out, lists.iter().map(|list| 2 + 2 * list.len()).sum());
+    for list in lists {
+        word(out, list.len());
+        words(out, list);
+    }
+}
+
+fn word(out: &mut Vec<u8>, value: usize) {
+    out.extend((value as u16).to_be_bytes());
+}
+
+fn words(out: &mut Vec<u8>, values: &[u16]) {
+    values.iter().for_each(|value| word(out, *value as usize));
+}
+
+// Sound pairs.
+
+/// How big a pair may become.
+struct Size {
+    facts: usize,
+    clauses: usize,
+    chain: usize,
+    rules: usize,
+    steps: usize,
+}
+
+/// Mostly small: the longest derivations take a checker a tenth of a second each.
+fn size(rng: &mut Rng) -> Size {
+    let [facts, clauses, chain, rules, steps] = match rng.below(40_000) {
+        0 => [4_096 - rng.below(200), 4_096, 4_096, 4, rng.below(2)],
+        1..=40 => [rng.of(&[1_000, 2_048, 4_095, 4_096]), rng.below(1_500), 150, 30, rng.below(4)],
+        41..=500 => [20 + rng.below(280), rng.below(200), 40, 12, rng.below(6)],
+        501..=520 => [12, 6, 5, 40, rng.of(&[300, 1_023, 1_024])],
+        _ => [rng.below(22), rng.below(12), 6, 5, rng.below(7)],
+    };
+    Size { facts, clauses, chain, rules, steps }
+}
+
+fn sound_files(rng: &mut Rng) -> (Vec<u8>, Vec<u8>) {
+    let (model, names) = sound_lists(rng);
+    (write_model(&model), write_trace(names[0], &names[1..]))
+}
+
+/// A model, and a trace (goal first) whose steps fire, until perhaps one that doesn't.
+fn sound_lists(rng: &mut Rng) -> (Model, Vec<u16>) {
+    let size = size(rng);
+    let mut model = Model { facts: size.facts as u16, ..Model::default() };
+    let count = rng.below(6);
+    model.initial = pick(rng, count, size.facts, |_| true);
+    model.clauses = some_clauses(rng, &size, &model.initial);
+    let mut heads = vec![false; size.facts];
+    model.clauses.iter().for_each(|c| heads[c.head as usize] = true);
+    let mut story = Story { rng, size, model, heads, known: Vec::new() };
+    let mut names = story.steps();
+    names.insert(0, story.attacks());
+    (story.model, names)
+}
+
+/// Up to `count` facts that pass, ascending.
+fn pick(rng: &mut Rng, count: usize, facts: usize, pass: impl Fn(usize) -> bool) -> Vec<u16> {
+    let tries = if facts == 0 { 0 } else { count };
+    let drawn = (0..tries).map(|_| rng.below(facts));
+    sorted(drawn.filter(|f| pass(*f)).map(|f| f as u16).collect())
+}
+
+fn sorted(mut list: Vec<u16>) -> Vec<u16> {
+    list.sort_unstable();
+    list.dedup();
+    list
+}
+
+fn some_clauses(rng: &mut Rng, size: &Size, initial: &[u16]) -> Vec<Clause> {
+    let wanted = if size.facts == 0 { 0 } else { size.clauses };
+    let mut out = Vec::with_capacity(wanted);
+    let first = initial.first().map_or(0, |f| *f as usize);
+    if size.chain > 1_000 {
+        chain(&mut out, first, size);
+    }
+    while out.len() < wanted {
+        let (a, b) = (rng.below(size.facts), rng.below(size.facts));
+        match rng.below(8) {
+            0 => chain(&mut out, first, size),
+            1 => chain(&mut out, a, size),
+            2 => (0..2 + rng.below(3)).for_each(|_| out.push(random_clause(rng, a, size.facts))),
+            3 => {
+                out.push(Clause { head: a as u16, body: vec![b as u16] });
+                out.push(Clause { head: b as u16, body: vec![a as u16] });
+            }
+            _ => out.push(random_clause(rng, a, size.facts)),
+        }
+    }
+    out.truncate(wanted);
+    match rng.below(3) {
+        0 => out.reverse(),
+        1 => (1..out.len()).for_each(|i| out.swap(i, rng.below(i + 1))),
+        _ => {}
+    }
+    out
+}
+
+/// Each fact from the one before it: as many rounds as it is long.
+fn chain(out: &mut Vec<Clause>, first: usize, size: &Size) {
+    let heads = (first + 1..size.facts).take(size.chain);
+    out.extend(heads.map(|f| Clause { head: f as u16, body: vec![f as u16 - 1] }));
+}
+
+fn random_clause(rng: &mut Rng, head: usize, facts: usize) -> Clause {
+    let usual = rng.of(&[1, 1, 1, 2, 2, 2, 2, 3, 3, 4]);
+    let count = if rng.one_in(16) { rng.of(&[0, 0, 16]) } else { usual };
+    Clause { head: head as u16, body: pick(rng, count, facts, |_| true) }
+}
+
+/// All derivable facts; sweeps to and fro, since only the set matters here.
+fn reach(clauses: &[Clause], state: &[bool]) -> Vec<bool> {
+    let mut known = state.to_vec();
+    let mut grew = true;
+    while grew {
+        grew = false;
+        clauses.iter().chain(clauses.iter().rev()).for_each(|c| grew |= learn(c, &mut known));
+    }
+    known
+}
+
+fn learn(clause: &Clause, known: &mut [bool]) -> bool {
+    let fresh = !known[clause.head as usize] && clause.body.iter().all(|f| known[*f as usize]);
+    known[clause.head as usize] |= fresh;
+    fresh
+}
+
+/// A run that makes the rules it needs as it goes; `known` is the latest closure.
+struct Story<'a> {
+    rng: &'a mut Rng,
+    size: Size,
+    model: Model,
+    heads: Vec<bool>,
+    known: Vec<bool>,
+}
+
+impl Story<'_> {
+    fn steps(&mut self) -> Vec<u16> {
+        let mut state = vec![false; self.size.facts];
+        self.model.initial.iter().for_each(|f| state[*f as usize] = true);
+        self.known = reach(&self.model.clauses, &state);
+        for _ in 0..self.rng.below(3) {
+            let idle = self.rule(false);
+            self.model.rules.push(idle);
+        }
+        let mut steps = Vec::new();
+        while steps.len() < self.size.steps {
+            let name = self.choose();
+            steps.push(name as u16);
+            if !self.fires(name) {
+                // What follows a blocked step must be named but is never run.
+                let more = self.rng.below(3).min(self.size.steps - steps.len());
+                let rules = self.model.rules.len();
+                (0..more).for_each(|_| steps.push(self.rng.below(rules) as u16));
+                break;
+            }
+            let rule = &self.model.rules[name];
+            rule.pos.iter().for_each(|f| state[*f as usize] = false);
+            rule.add.iter().for_each(|f| state[*f as usize] = true);
+            self.known = reach(&self.model.clauses, &state);
+        }
+        steps
+    }
+
+    fn fires(&self, name: usize) -> bool {
+        let Rule { pos, neg, .. } = &self.model.rules[name];
+        let known = |f: &u16| self.known[*f as usize];
+        pos.iter().all(known) && !neg.iter().any(known)
+    }
+
+    /// A rule that fires if it is easily found or there is room to make it, sometimes any.
+    fn choose(&mut self) -> usize {
+        let count = self.model.rules.len();
+        let long = self.size.steps > 100;
+        for _ in 0..3.min(count) {
+            let name = self.rng.below(count);
+            if self.fires(name) || self.rng.one_in(if long { 4_000 } else { 5 }) {
+                return name;
+            }
+        }
+        if count == 0 || count < self.size.rules || long && count < 1_500 {
+            let rule = self.rule(true);
+            self.model.rules.push(rule);
+            return count;
+        }
+        self.rng.below(count)
+    }
+
+    /// With `fit` the conditions hold in the latest closure; without, P or N may fail.
+    fn rule(&mut self, fit: bool) -> Rule {
+        let (fit_pos, fit_neg) = (fit || self.rng.one_in(3), fit || self.rng.one_in(3));
+        let mut count = || if self.rng.one_in(60) { 32 } else { self.rng.below(4) };
+        let (p, n, a, facts) = (count(), count(), count(), self.size.facts);
+        let pos = pick(self.rng, p, facts, |f| !fit_pos || self.known[f]);
+        let neg = pick(self.rng, n, facts, |f| !(self.heads[f] || fit_neg && self.known[f]));
+        let mut add = pick(self.rng, a, facts, |_| true);
+        // Often P is written back, as for facts that aren't used up.
+        if self.rng.one_in(2) && add.len() + pos.len() <= 32 {
+            add.extend(&pos);
+        }
+        Rule { pos, neg, add: sorted(add) }
+    }
+
+    /// A few attack states, and which is the goal: one met in the last closure, or any.
+    fn attacks(&mut self) -> u16 {
+        let count = if self.rng.one_in(200) { 64 } else { 1 + self.rng.below(3) };
+        let goal = self.rng.below(count);
+        for index in 0..count {
+            let met = index == goal && self.rng.one_in(2);
+            let Rule { pos, neg, .. } = self.rule(met);
+            self.model.attacks.push(Attack { pos, neg });
+        }
+        goal as u16
+    }
+}
+
+// Damage: first to the lists, then to the written bytes.
+
+fn damage(rng: &mut Rng) -> (Vec<u8>, Vec<u8>) {
+    let (mut model, mut names) = sound_lists(rng);
+    let faults = rng.of(&[1, 1, 1, 2, 2, 3]);
+    let in_lists = rng.below(faults + 1);
+    (0..in_lists).for_each(|_| spoil_lists(rng, &mut model, &mut names));
+    let mut model = write_model(&model);
+    let mut trace = write_trace(names[0], &names[1..]);
+    for _ in in_lists..faults {
+        let is_model = rng.below(4) < 3;
+        spoil_bytes(rng, if is_model { &mut model } else { &mut trace }, is_model);
+    }
+    (model, trace)
+}
+
+fn spoil_lists(rng: &mut Rng, model: &mut Model, names: &mut Vec<u16>) {
+    let over = rng.of(&[0, 1, 1, 2]);
+    match rng.below(20) {
+        0..=3 => bad_fact(rng, model),
+        4..=6 => disorder(rng, model),
+        7..=8 => long_list(rng, model, over),
+        9 => model.facts = rng.of(&[4_096, 4_097, 4_097, 65_535]) as u16,
+        10 => model.facts = rng.below(model.facts as usize + 1) as u16,
+        11 => many_records(rng, model, over),
+        12..=15 => negate(rng, model),
+        16 => names.resize(1 + 1_024 + over * rng.of(&[1, 1, 510]), 0),
+        _ => {
+            let at = rng.below(names.len());
+            let known = if at == 0 { model.attacks.len() } else { model.rules.len() };
+            names[at] = rng.of(&[known, known, known + 1, 65_535]) as u16;
+        }
+    }
+}
+
+fn any_list<'a>(rng: &mut Rng, model: &'a mut Model) -> &'a mut Vec<u16> {
+    let mut all = vec![&mut model.initial];
+    all.extend(model.clauses.iter_mut().map(|c| &mut c.body));
+    model.rules.iter_mut().for_each(|r| all.extend([&mut r.pos, &mut r.neg, &mut r.add]));
+    model.attacks.iter_mut().for_each(|a| all.extend([&mut a.pos, &mut a.neg]));
+    all.swap_remove(rng.below(all.len()))
+}
+
+fn bad_fact(rng: &mut Rng, model: &mut Model) {
+    let facts = model.facts as usize;
+    let fact = rng.of(&[facts, facts, facts + 1, 4_096, 65_535]) as u16;
+    if rng.one_in(6) && !model.clauses.is_empty() {
+        let at = rng.below(model.clauses.len());
+        model.clauses[at].head = fact;
+        return;
+    }
+    let list = any_list(rng, model);
+    let at = rng.below(list.len() + 1);
+    list.truncate(if rng.one_in(2) { at } else { list.len() });
+    list.insert(at, fact);
+}
+
+fn disorder(rng: &mut Rng, model: &mut Model) {
+    let some = rng.below(model.facts as usize) as u16;
+    let list = any_list(rng, model);
+    let at = rng.below(list.len());
+    match list.get(at) {
+        Some(_) if rng.one_in(2) => list.swap(0, at),
+        Some(fact) => list.insert(at, *fact),
+        None => list.extend([some, some]),
+    }
+}
+
+/// A body or list at its bound or past it, of facts that exist.
+fn long_list(rng: &mut Rng, model: &mut Model, over: usize) {
+    model.facts = model.facts.max(40);
+    if rng.one_in(2) && !model.clauses.is_empty() {
+        let at = rng.below(model.clauses.len());
+        model.clauses[at].body = (0..(16 + over) as u16).collect();
+    } else {
+        *any_list(rng, model) = (0..(32 + over) as u16).collect();
+    }
+}
+
+fn many_records(rng: &mut Rng, model: &mut Model, over: usize) {
+    match rng.below(60) {
+        0 => model.clauses.resize(4_096 + over, Clause::default()),
+        1 => model.rules.resize(2_048 + over, Rule::default()),
+        _ => model.attacks.resize(64 + over, Attack::default()),
+    }
+}
+
+/// Puts some clause's head into an N, in its right place.
+fn negate(rng: &mut Rng, model: &mut Model) {
+    if model.clauses.is_empty() {
+        let head = rng.below(model.facts as usize) as u16;
+        model.clauses.push(Clause { head, body: vec![] });
+    }
+    let head = model.clauses[rng.below(model.clauses.len())].head;
+    let rules = model.rules.len();
+    let neg = match rng.below(rules + model.attacks.len()) {
+        at if at < rules => &mut model.rules[at].neg,
+        at => &mut model.attacks[at - rules].neg,
+    };
+    neg.push(head);
+    *neg = sorted(neg.clone());
+}
+
+/// A length or count in the file; `end` is where the bytes it covers end, for lengths.
+struct Field {
+    at: usize,
+    wide: usize,
+    end: usize,
+}
+
+fn number_at(file: &[u8], at: usize, wide: usize) -> Option<usize> {
+    let bytes = file.get(at..at + wide)?;
+    Some(bytes.iter().fold(0, |value, byte| value << 8 | *byte as usize))
+}
+
+fn set_number(file: &mut [u8], field: &Field, value: usize) {
+    let bytes = (value as u32).to_be_bytes();
+    file[field.at..field.at + field.wide].copy_from_slice(&bytes[4 - field.wide..]);
+}
+
+/// The lengths and counts, as far as they can be followed.
+fn fields(file: &[u8], is_model: bool) -> Vec<Field> {
+    let mut out = Vec::new();
+    let mut at = 1;
+    for index in 0..if is_model { 5 } else { 1 } {
+        let Some(len) = number_at(file, at, 4) else { break };
+        let end = file.len().min(at + 4 + len);
+        out.push(Field { at, wide: 4, end });
+        if index >= 2 {
+            record_fields(&file[..end], at + 4, index > 2, &mut out);
+        }
+        at = end;
+    }
+    out
+}
+
+fn record_fields(section: &[u8], mut at: usize, has_counts: bool, out: &mut Vec<Field>) {
+    while let Some(len) = number_at(section, at, 2) {
+        let end = section.len().min(at + 2 + len);
+        out.push(Field { at, wide: 2, end });
+        let mut list = at + 2;
+        while has_counts && list + 2 <= end {
+            out.push(Field { at: list, wide: 2, end: 0 });
+            list += 2 + 2 * number_at(section, list, 2).unwrap_or(0);
+        }
+        at = end;
+    }
+}
+
+fn spoil_bytes(rng: &mut Rng, file: &mut Vec<u8>, is_model: bool) {
+    if file.is_empty() {
+        return;
+    }
+    let at = rng.below(file.len());
+    let some = (1 + rng.below(4)).min(file.len() - at);
+    match rng.below(20) {
+        0 => file[at] ^= 1 << rng.below(8),
+        1 => file[at] = rng.draw() as u8,
+        2 => file.truncate(at),
+        3 => drop(file.splice(at..at, rng.draw().to_be_bytes()[..some].to_vec())),
+        4 => drop(file.drain(at..at + some)),
+        5 => file.extend_from_within(at..at + some),
+        6 => drop(file.splice(at..at, file[at..at + some].to_vec())),
+        7..=11 => spoil_field(rng, file, is_model),
+        12..=15 => mended_cut(rng, file, is_model),
+        16 => file[0] = rng.of(&[0, 2, 255]) as u8,
+        17 if rng.one_in(2) => file.clear(),
+        17 => file.extend([0; 3]),
+        _ => file.resize(if is_model { 65_536 } else { 4_096 } + rng.of(&[0, 1, 1, 2, 100]), 0),
+    }
+}
+
+fn spoil_field(rng: &mut Rng, file: &mut [u8], is_model: bool) {
+    let all = fields(file, is_model);
+    let Some(field) = all.get(rng.below(all.len())) else { return };
+    let value = number_at(file, field.at, field.wide).unwrap_or(0);
+    let choices = [value + 1, value + 1, value.wrapping_sub(1), value + 2, 0, 0xFFFF_FFFF, 0x8000];
+    set_number(file, field, rng.of(&choices));
+}
+
+/// Bytes come or go and the lengths around them follow, so that the fault lies deep inside.
+fn mended_cut(rng: &mut Rng, file: &mut Vec<u8>, is_model: bool) {
+    let at = rng.below(file.len());
+    let gone = rng.below(3).min(file.len() - at);
+    let come = rng.below(3);
+    // Sometimes only the section's length follows and the record's doesn't.
+    let narrowest = if rng.one_in(3) { 4 } else { 2 };
+    for field in fields(file, is_model) {
+        if field.wide >= narrowest && field.at + field.wide <= at && at < field.end {
+            let value = number_at(file, field.at, field.wide).unwrap_or(0);
+            set_number(file, &field, (value + come).wrapping_sub(gone));
+        }
+    }
+    let bytes = if rng.one_in(2) { [0; 8] } else { rng.draw().to_be_bytes() };
+    drop(file.splice(at..at + gone, bytes[..come].to_vec()));
+}

@@ -1,0 +1,166 @@
+//! A second trace checker, written from the rules alone so that two programs can be compared.
+//! It reads everything into owned lists, works on sets, and writes the lent buffers at the very end.
+
+pub mod close;
+pub mod gen;
+pub mod read;
+
+pub use close::{bench_close, bench_close_flat, close, close_api};
+pub use close::{clause_place, flat, Flat, Judged};
+pub use read::{parse, parse_model, Attack, Clause, Model, Parsed, Part, Rule, Trace};
+
+use std::collections::BTreeSet;
+
+pub const ATTACK: u8 = 0;
+pub const ROOM: u8 = 1;
+pub const LONG: u8 = 2;
+pub const VERSION: u8 = 3;
+pub const SHAPE: u8 = 4;
+pub const COUNT: u8 = 5;
+pub const FACT: u8 = 6;
+pub const ORDER: u8 = 7;
+pub const NEGATED: u8 = 8;
+pub const NAME: u8 = 9;
+pub const BLOCKED: u8 = 10;
+pub const NOATTACK: u8 = 11;
+
+pub const NAMES: [&str; 12] = [
+    "ATTACK", "ROOM", "LONG", "VERSION", "SHAPE", "COUNT", "FACT", "ORDER", "NEGATED", "NAME",
+    "BLOCKED", "NOATTACK",
+];
+
+/// Marks: which of the two files holds the bytes at fault.
+pub const MODEL: u8 = 0;
+pub const TRACE: u8 = 1;
+
+/// No fact, or no round.
+pub const NONE: u16 = 65_535;
+
+/// What the two buffers must at least hold.
+pub const STATE_BYTES: usize = 512;
+pub const TABLE_ENTRIES: usize = 4_096;
+
+/// A refusal before the first step: its number and the bytes it blames.
+#[derive(Clone, Copy, Debug, PartialEq, Eq)]
+pub struct Fault {
+    pub number: u8,
+    pub mark: u8,
+    pub start: usize,
+    pub len: usize,
+}
+
+#[derive(Clone, Copy, Debug, PartialEq, Eq)]
+pub struct Verdict {
+    pub number: u8,
+    pub step: usize,
+    pub fact: u16,
+    pub rounds: usize,
+    pub held: usize,
+    pub mark: u8,
+    pub start: usize,
+    pub len: usize,
+}
+
+/// Judges the pair. The buffers change only for ATTACK, BLOCKED and NOATTACK.
+pub fn check(model: &[u8], trace: &[u8], state: &mut [u8], table: &mut [u16]) -> Verdict {
+    if !room(state, table) {
+        return refusal(Fault { number: ROOM, mark: MODEL, start: 0, len: 0 });
+    }
+    match parse(model, trace) {
+        Err(fault) => refusal(fault),
+        Ok(parsed) => {
+            let end = run(&parsed);
+            write_state(&end.stored, state);
+            write_table(&end.numbers, table);
+            end.verdict
+        }
+    }
+}
+
+/// The faulty bytes themselves, as a part of the file the mark names.
+pub fn fault_part<'a>(
+    model: &'a [u8],
+    trace: &'a [u8],
+    mark: u8,
+    start: usize,
+    len: usize,
+) -> &'a [u8] {
+    let file = if mark == MODEL { model } else { trace };
+    &file[start..start + len]
+}
+
+/// The program's one line, without the newline.
+pub fn line(v: &Verdict) -> String {
+    let fact = if v.fact == NONE { "none".to_string() } else { v.fact.to_string() };
+    let name = NAMES[v.number as usize];
+    format!("{name} step {} fact {fact} rounds {} held {}", v.step, v.rounds, v.held)
+}
+
+pub(crate) fn room(state: &[u8], table: &[u16]) -> bool {
+    state.len() >= STATE_BYTES && table.len() >= TABLE_ENTRIES
+}
+
+fn refusal(Fault { number, mark, start, len }: Fault) -> Verdict {
+    Verdict { number, step: 0, fact: NONE, rounds: 0, held: 0, mark, start, len }
+}
+
+/// Where a run ends: the last state reached, its round numbers, and what is said of it.
+struct End {
+    stored: BTreeSet<u16>,
+    numbers: Vec<u16>,
+    verdict: Verdict,
+}
+
+fn run(parsed: &Parsed) -> End {
+    let Parsed { model, trace, attack_places } = parsed;
+    let mut stored: BTreeSet<u16> = model.initial.iter().copied().collect();
+    let (mut rounds, mut numbers) = close(model, &stored);
+    for (step, &name) in trace.steps.iter().enumerate() {
+        let rule = &model.rules[name as usize];
+        if let Some(fact) = first_unmet(&rule.pos, &rule.neg, &numbers) {
+            // The trace's section starts at byte 5, and the goal takes its first two bytes.
+            let fault = Fault { number: BLOCKED, mark: TRACE, start: 7 + 2 * step, len: 2 };
+            let verdict = Verdict { step, fact, rounds, held: stored.len(), ..refusal(fault) };
+            return End { stored, numbers, verdict };
+        }
+        stored = next_state(&stored, rule);
+        let (more, anew) = close(model, &stored);
+        rounds += more;
+        numbers = anew;
+    }
+    let goal = &model.attacks[trace.goal as usize];
+    let unmet = first_unmet(&goal.pos, &goal.neg, &numbers);
+    let Part { start, len } = attack_places[trace.goal as usize];
+    let fault = match unmet {
+        Some(_) => Fault { number: NOATTACK, mark: MODEL, start, len },
+        None => Fault { number: ATTACK, mark: MODEL, start: 0, len: 0 },
+    };
+    let (step, fact) = (trace.steps.len(), unmet.unwrap_or(NONE));
+    let verdict = Verdict { step, fact, rounds, held: stored.len(), ..refusal(fault) };
+    End { stored, numbers, verdict }
+}
+
+/// P is searched before N; a fact is in the closure when it has a round number.
+fn first_unmet(pos: &[u16], neg: &[u16], numbers: &[u16]) -> Option<u16> {
+    let closed = |f: &u16| numbers[*f as usize] != NONE;
+    let missing = pos.iter().find(|f| !closed(f));
+    missing.or_else(|| neg.iter().find(|f| closed(f))).copied()
+}
+
+/// Removal first, so that a fact in both P and A stays stored.
+fn next_state(stored: &BTreeSet<u16>, rule: &Rule) -> BTreeSet<u16> {
+    let kept = stored.iter().filter(|f| !rule.pos.contains(f));
+    kept.chain(&rule.add).copied().collect()
+}
+
+fn write_state(stored: &BTreeSet<u16>, state: &mut [u8]) {
+    state[..STATE_BYTES].fill(0);
+    for &f in stored {
+        state[f as usize / 8] |= 1 << (f % 8);
+    }
+}
+
+pub(crate) fn write_table(numbers: &[u16], table: &mut [u16]) {
+    table[..numbers.len()].copy_from_slice(numbers);
+    table[numbers.len()..TABLE_ENTRIES].fill(NONE);
+}

@@ -1,0 +1,22 @@
+//! `second MODEL TRACE [--full]`: the verdict's line, and with `--full` where its bytes lie.
+
+use second::{check, line, MODEL, STATE_BYTES, TABLE_ENTRIES};
+
+fn main() {
+    let (flags, paths): (Vec<String>, Vec<String>) =
+        std::env::args().skip(1).partition(|arg| arg == "--full");
+    let [model, trace] = &paths[..] else {
+        eprintln!("usage: second MODEL TRACE [--full]");
+        std::process::exit(2);
+    };
+    // A file that isn't there counts as an empty one.
+    let read = |path: &String| std::fs::read(path).unwrap_or_default();
+    let mut state = [0; STATE_BYTES];
+    let mut table = [0; TABLE_ENTRIES];
+    let verdict = check(&read(model), &read(trace), &mut state, &mut table);
+    println!("{}", line(&verdict));
+    if !flags.is_empty() {
+        let mark = if verdict.mark == MODEL { "model" } else { "trace" };
+        println!("{mark} {} {}", verdict.start, verdict.len);
+    }
+}

@@ -1,0 +1,300 @@
+//! From bytes to owned lists, or to the first fault in the fixed order.
+
+use crate::{Fault, COUNT, FACT, LONG, MODEL, NAME, NEGATED, ORDER, SHAPE, TRACE, VERSION};
+use std::collections::BTreeSet;
+
+#[derive(Clone, Debug, Default, PartialEq, Eq)]
+pub struct Clause {
+    pub head: u16,
+    pub body: Vec<u16>,
+}
+
+#[derive(Clone, Debug, Default, PartialEq, Eq)]
+pub struct Rule {
+    pub pos: Vec<u16>,
+    pub neg: Vec<u16>,
+    pub add: Vec<u16>,
+}
+
+#[derive(Clone, Debug, Default, PartialEq, Eq)]
+pub struct Attack {
+    pub pos: Vec<u16>,
+    pub neg: Vec<u16>,
+}
+
+#[derive(Clone, Debug, Default, PartialEq, Eq)]
+pub struct Model {
+    pub facts: u16,
+    pub initial: Vec<u16>,
+    pub clauses: Vec<Clause>,
+    pub rules: Vec<Rule>,
+    pub attacks: Vec<Attack>,
+}
+
+#[derive(Clone, Debug, Default, PartialEq, Eq)]
+pub struct Trace {
+    pub goal: u16,
+    pub steps: Vec<u16>,
+}
+
+#[derive(Clone, Debug, PartialEq, Eq)]
+pub struct Parsed {
+    pub model: Model,
+    pub trace: Trace,
+    /// Each attack state's record with its length, since NOATTACK hands it back.
+    pub attack_places: Vec<Part>,
+}
+
+/// A stretch of one file.
+#[derive(Clone, Copy, Debug, PartialEq, Eq)]
+pub struct Part {
+    pub start: usize,
+    pub len: usize,
+}
+
+impl Part {
+    fn end(self) -> usize {
+        self.start + self.len
+    }
+    fn of(self, file: &[u8]) -> &[u8] {
+        &file[self.start..self.end()]
+    }
+}
+
+/// A fault inside one file; the mark is put on by whoever knows which file it is.
+type Fail = (u8, Part);
+
+fn fail_if(bad: bool, number: u8, part: Part) -> Result<(), Fail> {
+    if bad {
+        return Err((number, part));
+    }
+    Ok(())
+}
+
+fn in_model((number, Part { start, len }): Fail) -> Fault {
+    Fault { number, mark: MODEL, start, len }
+}
+
+fn in_trace((number, Part { start, len }): Fail) -> Fault {
+    Fault { number, mark: TRACE, start, len }
+}
+
+/// Everything judged before the first step, buffers apart: numbers 2 to 9.
+pub fn parse(model: &[u8], trace: &[u8]) -> Result<Parsed, Fault> {
+    judge_size(model, 65_536).map_err(in_model)?;
+    judge_size(trace, 4_096).map_err(in_trace)?;
+    judge_version(model).map_err(in_model)?;
+    judge_version(trace).map_err(in_trace)?;
+    let (model, attack_places) = read_model(model).map_err(in_model)?;
+    let trace = read_trace(trace, &model).map_err(in_trace)?;
+    Ok(Parsed { model, trace, attack_places })
+}
+
+/// The model's share of that, numbers 2 to 8, for closing called by itself.
+pub fn parse_model(model: &[u8]) -> Result<Model, Fault> {
+    judge_size(model, 65_536).map_err(in_model)?;
+    judge_version(model).map_err(in_model)?;
+    let (model, _) = read_model(model).map_err(in_model)?;
+    Ok(model)
+}
+
+fn judge_size(file: &[u8], most: usize) -> Result<(), Fail> {
+    fail_if(file.len() > most, LONG, rest_of(file, 0))
+}
+
+fn judge_version(file: &[u8]) -> Result<(), Fail> {
+    fail_if(file.first() != Some(&1), VERSION, Part { start: 0, len: file.len().min(1) })
+}
+
+fn rest_of(file: &[u8], start: usize) -> Part {
+    Part { start, len: file.len() - start }
+}
+
+/// The payload of the section whose length stands at `at`.
+fn section(file: &[u8], at: usize) -> Result<Part, Fail> {
+    let rest = rest_of(file, at);
+    fail_if(rest.len < 4, SHAPE, rest)?;
+    let len = u32::from_be_bytes([file[at], file[at + 1], file[at + 2], file[at + 3]]) as usize;
+    fail_if(len > rest.len - 4, SHAPE, rest)?;
+    Ok(Part { start: at + 4, len })
+}
+
+fn judge_tail(file: &[u8], last: Part) -> Result<(), Fail> {
+    fail_if(last.end() < file.len(), SHAPE, rest_of(file, last.end()))
+}
+
+fn numbers(bytes: &[u8]) -> Vec<u16> {
+    bytes.chunks_exact(2).map(|b| u16::from_be_bytes([b[0], b[1]])).collect()
+}
+
+fn ascending(list: &[u16]) -> bool {
+    list.windows(2).all(|w| w[0] < w[1])
+}
+
+fn read_model(file: &[u8]) -> Result<(Model, Vec<Part>), Fail> {
+    let sizes = section(file, 1)?;
+    let facts = read_sizes(sizes.of(file), sizes)?;
+    let start = section(file, sizes.end())?;
+    let initial = read_initial(start.of(file), start, facts)?;
+    let (end, clauses) = read_records(file, start.end(), facts, &CLAUSE)?;
+    let (end, rules) = read_records(file, end.end(), facts, &RULE)?;
+    let (end, attacks) = read_records(file, end.end(), facts, &ATTACK_STATE)?;
+    judge_tail(file, end)?;
+
+    // A head counts as one whether or not its clause can ever give it.
+    let heads: BTreeSet<u16> = clauses.iter().filter_map(|(_, split)| split.head).collect();
+    judge_negated(&heads, &rules)?;
+    judge_negated(&heads, &attacks)?;
+
+    let attack_places = attacks.iter().map(|(part, _)| *part).collect();
+    let model = Model {
+        facts,
+        initial,
+        clauses: clauses.into_iter().map(|(_, split)| clause(split)).collect(),
+        rules: rules.into_iter().map(|(_, split)| rule(split)).collect(),
+        attacks: attacks.into_iter().map(|(_, split)| attack(split)).collect(),
+    };
+    Ok((model, attack_places))
+}
+
+/// Where the clause section's bytes lie in a model already found well-formed.
+pub(crate) fn clause_section(model: &[u8]) -> Option<Part> {
+    let sizes = section(model, 1).ok()?;
+    let initial = section(model, sizes.end()).ok()?;
+    section(model, initial.end()).ok()
+}
+
+fn read_sizes(bytes: &[u8], part: Part) -> Result<u16, Fail> {
+    let [high, low] = *bytes else { return Err((SHAPE, part)) };
+    let facts = u16::from_be_bytes([high, low]);
+    fail_if(facts > 4_096, COUNT, part)?;
+    Ok(facts)
+}
+
+fn read_initial(bytes: &[u8], part: Part, facts: u16) -> Result<Vec<u16>, Fail> {
+    fail_if(bytes.len() % 2 == 1, SHAPE, part)?;
+    let initial = numbers(bytes);
+    fail_if(initial.iter().any(|f| *f >= facts), FACT, part)?;
+    fail_if(!ascending(&initial), ORDER, part)?;
+    Ok(initial)
+}
+
+/// A record taken apart: a clause has a head and one list, the others only lists.
+struct Split {
+    head: Option<u16>,
+    lists: Vec<Vec<u16>>,
+}
+
+type Records = Vec<(Part, Split)>;
+
+/// What tells the three record sections apart.
+struct Kind {
+    most: usize,
+    longest: usize,
+    split: fn(&[u8]) -> Option<Split>,
+}
+
+const CLAUSE: Kind = Kind { most: 4_096, longest: 16, split: split_clause };
+const RULE: Kind = Kind { most: 2_048, longest: 32, split: |bytes| split_lists(bytes, 3) };
+const ATTACK_STATE: Kind = Kind { most: 64, longest: 32, split: |bytes| split_lists(bytes, 2) };
+
+/// Each record is judged in full before the next one is looked at.
+fn read_records(file: &[u8], at: usize, facts: u16, kind: &Kind) -> Result<(Part, Records), Fail> {
+    let whole = section(file, at)?;
+    let mut records = Vec::new();
+    let mut at = whole.start;
+    while at < whole.end() {
+        let part = record_place(file, Part { start: at, len: whole.end() - at })?;
+        let split = (kind.split)(&part.of(file)[2..]).ok_or((SHAPE, part))?;
+        judge_record(&split, records.len(), facts, kind).map_err(|number| (number, part))?;
+        records.push((part, split));
+        at = part.end();
+    }
+    Ok((whole, records))
+}
+
+/// The record at the start of what is left of its section, length included.
+fn record_place(file: &[u8], left: Part) -> Result<Part, Fail> {
+    fail_if(left.len < 2, SHAPE, left)?;
+    let len = 2 + u16::from_be_bytes([file[left.start], file[left.start + 1]]) as usize;
+    fail_if(len > left.len, SHAPE, left)?;
+    Ok(Part { start: left.start, len })
+}
+
+/// The passes after the shape: bounds, then facts, then order.
+fn judge_record(split: &Split, index: usize, facts: u16, kind: &Kind) -> Result<(), u8> {
+    let lists = &split.lists;
+    if index >= kind.most || lists.iter().any(|list| list.len() > kind.longest) {
+        return Err(COUNT);
+    }
+    if split.head.iter().chain(lists.iter().flatten()).any(|f| *f >= facts) {
+        return Err(FACT);
+    }
+    if lists.iter().any(|list| !ascending(list)) {
+        return Err(ORDER);
+    }
+    Ok(())
+}
+
+fn split_clause(bytes: &[u8]) -> Option<Split> {
+    let (head, body) = bytes.split_at_checked(2)?;
+    let split = Split { head: numbers(head).pop(), lists: vec![numbers(body)] };
+    (body.len() % 2 == 0).then_some(split)
+}
+
+fn split_lists(bytes: &[u8], count: usize) -> Option<Split> {
+    let mut lists = Vec::with_capacity(count);
+    let mut rest = bytes;
+    for _ in 0..count {
+        let (list, after) = take_list(rest)?;
+        lists.push(list);
+        rest = after;
+    }
+    rest.is_empty().then_some(Split { head: None, lists })
+}
+
+fn take_list(bytes: &[u8]) -> Option<(Vec<u16>, &[u8])> {
+    let (count, rest) = bytes.split_at_checked(2)?;
+    let count = u16::from_be_bytes([count[0], count[1]]) as usize;
+    let (facts, after) = rest.split_at_checked(2 * count)?;
+    Some((numbers(facts), after))
+}
+
+/// Rules and attack states both keep their N second.
+fn judge_negated(heads: &BTreeSet<u16>, records: &Records) -> Result<(), Fail> {
+    let holds_head = |split: &Split| split.lists[1].iter().any(|f| heads.contains(f));
+    match records.iter().find(|(_, split)| holds_head(split)) {
+        Some((part, _)) => Err((NEGATED, *part)),
+        None => Ok(()),
+    }
+}
+
+fn clause(mut split: Split) -> Clause {
+    Clause { head: split.head.unwrap_or_default(), body: split.lists.remove(0) }
+}
+
+fn rule(mut split: Split) -> Rule {
+    let mut next = || split.lists.remove(0);
+    Rule { pos: next(), neg: next(), add: next() }
+}
+
+fn attack(mut split: Split) -> Attack {
+    let mut next = || split.lists.remove(0);
+    Attack { pos: next(), neg: next() }
+}
+
+fn read_trace(file: &[u8], model: &Model) -> Result<Trace, Fail> {
+    let part = section(file, 1)?;
+    // Without a goal there is no trace, so an empty section is too short.
+    fail_if(part.len == 0 || part.len % 2 == 1, SHAPE, part)?;
+    judge_tail(file, part)?;
+    let mut steps = numbers(part.of(file));
+    let goal = steps.remove(0);
+    fail_if(steps.len() > 1_024, COUNT, part)?;
+    let two = |index: usize| Part { start: part.start + 2 * index, len: 2 };
+    fail_if(goal as usize >= model.attacks.len(), NAME, two(0))?;
+    match steps.iter().position(|s| *s as usize >= model.rules.len()) {
+        Some(step) => Err((NAME, two(step + 1))),
+        None => Ok(Trace { goal, steps }),
+    }
+}

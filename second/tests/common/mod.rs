@@ -1,0 +1,63 @@
+//! What both test files need.
+#![allow(dead_code)]
+
+use second::*;
+
+/// The desk model byte by byte: its sections have their lengths at 1, 7, 17, 37 and 77.
+pub const DESK: &str = "01 00000002 0006  00000006 0000 0001 0004 \
+    00000010 0006 0002 0000 0001  0006 0005 0002 0004 \
+    00000024 000C 0001 0005 0001 0003 0001 0003 \
+             0008 0001 0000 0000 0000  000A 0001 0001 0000 0001 0001 \
+    00000014 0008 0002 0003 0005 0000  0008 0001 0004 0001 0000";
+
+pub fn hex(text: &str) -> Vec<u8> {
+    let digits: Vec<u8> = text.bytes().filter(|b| !b.is_ascii_whitespace()).collect();
+    let pair = |two: &[u8]| u8::from_str_radix(std::str::from_utf8(two).unwrap(), 16).unwrap();
+    digits.chunks(2).map(pair).collect()
+}
+
+/// Checks with leftovers in the buffers. What holds for every verdict is asserted here.
+pub fn judge_in(model: &[u8], trace: &[u8], state_len: usize, table_len: usize) -> Verdict {
+    let (mut state, mut table) = (vec![0xA5; state_len], vec![0x5A5A; table_len]);
+    let v = check(model, trace, &mut state, &mut table);
+    let refused = (1..=9).contains(&v.number);
+    if refused {
+        assert_eq!((v.step, v.fact, v.rounds, v.held), (0, NONE, 0, 0));
+    }
+    let (bytes, entries) = if refused { (0, 0) } else { (512, 4_096) };
+    assert!(state[bytes..].iter().all(|b| *b == 0xA5));
+    assert!(table[entries..].iter().all(|e| *e == 0x5A5A));
+    assert_eq!(fault_part(model, trace, v.mark, v.start, v.len).len(), v.len);
+    v
+}
+
+pub fn judge(model: &[u8], trace: &[u8]) -> Verdict {
+    judge_in(model, trace, 520, 4_100)
+}
+
+/// Number, mark, start and length.
+pub fn place(v: Verdict) -> (u8, u8, usize, usize) {
+    (v.number, v.mark, v.start, v.len)
+}
+
+pub fn clause(head: u16, body: &[u16]) -> Clause {
+    Clause { head, body: body.to_vec() }
+}
+
+pub fn rule(pos: &[u16], neg: &[u16], add: &[u16]) -> Rule {
+    Rule { pos: pos.to_vec(), neg: neg.to_vec(), add: add.to_vec() }
+}
+
+pub fn attack(pos: &[u16], neg: &[u16]) -> Attack {
+    Attack { pos: pos.to_vec(), neg: neg.to_vec() }
+}
+
+/// Nothing but F and one attack state without conditions: 29 bytes. The section lengths stand at
+/// 1, 7, 11, 15 and 19, so a first clause is at 15, and with no clause a first rule at 19.
+pub fn bare(facts: u16) -> Model {
+    Model { facts, attacks: vec![attack(&[], &[])], ..Model::default() }
+}
+
+pub fn up_to(end: u16) -> Vec<u16> {
+    (0..end).collect()
+}

@@ -1,0 +1,116 @@
+-- `check` meets its contract: room, then the pair's first fault, then the run.
+use Prim.Native.Nat.{ℕ, _≤_}
+use mathlib.Core.Path.{_≡_, refl, sym, ap, _∙_}
+use mathlib.Core.Bool.{false}
+use mathlib.Core.List.{List}
+use mathlib.Core.Option.{Option, none, some}
+use Rattle.checking.specs.declared.Verdict.{Verdict}
+use denote.Ref.{now}
+use borrow.Author.Needs.{needs}
+use borrow.Author.Tests.{lt-ltb, le-ltb}
+use Rattle.files.specs.Files.{pairFault}
+use Rattle.files.specs.Answers.{layoutOf}
+use Rattle.files.proofs.Traces.{paired-fine, paired-fault}
+use Rattle.closing.specs.Closing.{noRoom}
+use Rattle.checking.proofs.Refusals.{checked-refused, checked-run, no-room, blames-none, checked-blamed}
+use Rattle.checking.proofs.check.Statement.{statement}
+use Rattle.checking.proofs.check.Tie as tie
+use Rattle.checking.proofs.check.Reads as reads
+use Rattle.checking.proofs.check.Lts as lts
+
+module _ (s : tie.Start) where
+  abbrev model : List ℕ
+  model = now (s .args .model)
+
+  abbrev trace : List ℕ
+  trace = now (s .args .trace)
+
+  abbrev state : List ℕ
+  state = now (s .args .state)
+
+  abbrev table : List ℕ
+  table = now (s .args .table)
+
+-- past the two tests there is room
+roomy : (c : tie.Else2) → noRoom (state (c .before .before .before .before .before .before)) (table (c .before .before .before .before .before .before)) ≡ false
+unfolding noRoom
+roomy c = rw (le-ltb _ _ (c .before .if1 .left), le-ltb _ _ (c .if2 .left))
+
+-- the pair has no fault, and the model's layout is at hand
+pair-is-fine : (c : tie.After-layout) → let s = c .before .before .before .before .before .before .before .before .before in (pairFault (model s) (trace s) ≡ none) × (layoutOf (model s) ≡ c .layout .given .0 .0)
+pair-is-fine c = paired-fine _ _ _ (c .before .before .judge-pair .ensures) (c .layout .given .1)
+
+refuse-requires : tie.Need-refuse-requires
+refuse-requires c κs = search needs
+
+returns : tie.Need-returns
+unfolding noRoom
+returns c =
+    let s = c .before .before .before .before .before .before in
+    checked-refused (model s) (trace s) (state s) (table s) _ (no-room (model s) (trace s) (state s) (table s) (rw (lt-ltb _ _ (c .before .if1 .taken))) ∙ ap {B = Option Verdict} some (sym (c .refuse .ensures)))
+
+refuse-requires-2 : tie.Need-refuse-requires-2
+refuse-requires-2 c κs = search needs
+
+returns-2 : tie.Need-returns-2
+unfolding noRoom
+returns-2 c =
+    let s = c .before .before .before .before .before .before .before in
+    checked-refused (model s) (trace s) (state s) (table s) _
+    (no-room (model s) (trace s) (state s) (table s) (rw (le-ltb _ _ (c .before .before .if1 .left), lt-ltb _ _ (c .before .if2 .taken))) ∙ ap {B = Option Verdict} some (sym (c .refuse2 .ensures)))
+
+judge-pair-requires : tie.Need-judge-pair-requires
+judge-pair-requires c κs = search needs
+
+enum-known-number : tie.Need-enum-known-number
+enum-known-number c = search needs
+
+refuse-requires-3 : tie.Need-refuse-requires-3
+refuse-requires-3 c κs = search needs
+
+enum-known-layout : tie.Need-enum-known-layout
+enum-known-layout c = search needs
+
+run-requires : tie.Need-run-requires
+run-requires c κs =
+    let fine = pair-is-fine (c .before .before .before) in
+    record { fine = fine .0; layout = sym (fine .1); room = c .before .before .before .before .before .before .before .if1 .left; entries = c .before .before .before .before .before .before .if2 .left }
+
+returns-3 : tie.Need-returns-3
+returns-3 c =
+    let judged = c .before .before .before .before in
+    let s = judged .before .before .before .before .before .before .before in
+    checked-blamed (model s) (trace s) (state s) (table s) (roomy (judged .before)) _ _ _ _ _
+    (paired-fault _ _ _ _ _ _ (judged .judge-pair .ensures) (c .before .before .number .given .1)) (c .refuse3 .ensures)
+
+same-length : tie.Need-same-length
+same-length c = search needs
+
+same-length-2 : tie.Need-same-length-2
+same-length-2 c = search needs
+
+returns-4 : tie.Need-returns-4
+returns-4 c =
+    let layout = c .before .before .before .before .before .before .before .before in
+    let tested = layout .before .before .before in
+    let s = tested .before .before .before .before .before .before in
+    let done = c .before .before .before .before .run .ensures in
+    checked-run (model s) (trace s) (state s) (table s) _ (blames-none (model s) (trace s) (state s) (table s) (roomy tested) (pair-is-fine layout .0)) (done .0) (done .1)
+
+pub check-spec : {M : Type 1} → statement M
+check-spec =
+    tie.close
+    (tie.spec
+    refuse-requires
+    returns
+    refuse-requires-2
+    returns-2
+    judge-pair-requires
+    enum-known-number
+    refuse-requires-3
+    enum-known-layout
+    run-requires
+    returns-3
+    same-length
+    same-length-2
+    returns-4)

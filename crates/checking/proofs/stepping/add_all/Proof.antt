@@ -1,0 +1,87 @@
+-- `add_all` meets its contract: what the facts that are left would add, and what was added, is what all of them add.
+use Prim.Native.Nat.{ℕ, _+_, _-_, _≤_}
+use mathlib.Core.Path.{_≡_, refl, sym, ap, _∙_}
+use mathlib.Core.Bool.{Bool, _||_, and-true}
+use mathlib.Core.List.{List}
+use native.Mathlib.Omega.{arith}
+use denote.Ref.{now}
+use lib.Dec.{eqb}
+use lib.ListN.{length, drop}
+use Rattle.sets.specs.Sets.{listed}
+use Rattle.facts.specs.Facts.{members, Kept, room}
+use Rattle.facts.proofs.Laws.{kept-same, kept-trans, room-in}
+use Rattle.records.specs.Words.{word, words}
+use Rattle.checking.specs.Stepping.{Known}
+use Rattle.checking.proofs.Changing.{known-here, done-one, done-all, add-idle, add-twice}
+use Rattle.checking.proofs.stepping.add_all.Statement.{statement}
+use Rattle.checking.proofs.stepping.add_all.Tie as tie
+use Rattle.checking.proofs.stepping.add_all.Reads as reads
+use Rattle.checking.proofs.stepping.add_all.Lts as lts
+
+record Inv (list state₀ state : List ℕ) (at : ℕ) : Type 0 where
+  within : at ≤ length list
+  room : 512 ≤ length state
+  known : Known (drop at list)
+  kept : Kept state₀ state
+  facts : (g : ℕ) → (members state g || listed (words (drop at list)) g) ≡ (members state₀ g || listed (words list) g)
+
+abbrev Inv-loop : tie.InvT-loop
+Inv-loop list state₀ at₀ state at = Inv list state₀ state at
+
+abbrev μ-loop : tie.MeasureT-loop
+μ-loop list state₀ at₀ state at = length list - at
+
+loop-holds : tie.Need-loop-holds Inv-loop μ-loop
+loop-holds c = record { within = omega arith; room = c .before .before .pre .1; known = c .before .before .pre .0; kept = kept-same _; facts = λ g. refl }
+
+sub-loop : tie.Need-sub-loop Inv-loop μ-loop
+sub-loop c = omega arith
+
+word-at-requires : tie.Need-word-at-requires Inv-loop μ-loop
+word-at-requires c κs = omega arith
+
+add-requires : tie.Need-add-requires Inv-loop μ-loop
+add-requires c κs = tt
+
+add-at : tie.Need-add-at Inv-loop μ-loop
+add-at c = omega arith
+
+loop-less : tie.Need-loop-less Inv-loop μ-loop
+loop-less c = omega arith
+
+loop-again : tie.Need-loop-again Inv-loop μ-loop
+loop-again c =
+    let loop = c .before .before .before .before .before .before in
+    let args = loop .before .before .before .args in
+    let list = now (args .list) in
+    let at = loop .loop .at in
+    let here = known-here list at (omega arith) (loop .loop .inv .known) in
+    let added = c .before .before .add .ensures in
+    let one : (g : ℕ) → members (c .before .before .add .last .0) g ≡ (members (loop .loop .state) g || eqb g (word (drop at list))) =
+    λ g. added .set g
+    ∙ rw (room-in (loop .loop .state) (c .before .before .before .word-at .result) (omega (arith, c .before .before .before .word-at .ensures)), ← c .before .before .before .word-at .ensures)
+    (ap (λ (b : Bool). members (loop .loop .state) g || b) (and-true _)) in
+    record {
+      within = omega arith;
+      room = omega (arith, added .kept .length);
+      known = here .1;
+      kept = kept-trans (loop .loop .inv .kept) (added .kept);
+      facts = λ g. done-one _||_ add-idle add-twice list (loop .loop .state) (c .before .before .add .last .0) at (omega arith) one g ∙ loop .loop .inv .facts g;
+    }
+
+same-length : tie.Need-same-length Inv-loop μ-loop
+same-length c = c .before .loop .inv .kept .length
+
+returns : tie.Need-returns Inv-loop μ-loop
+returns c =
+    let loop = c .before .loop in
+    let list = now (c .before .before .before .before .args .list) in
+    record {
+      facts = λ g. sym (done-all _||_ add-idle add-twice list (loop .state) (loop .at) (omega arith) g) ∙ loop .inv .facts g;
+      kept = loop .inv .kept;
+    }
+
+pub add-all-spec : {M : Type 1} → statement M
+add-all-spec =
+    tie.close
+    (tie.spec Inv-loop μ-loop loop-holds sub-loop word-at-requires add-requires add-at loop-less loop-again same-length returns)

@@ -1,0 +1,31 @@
+-- `begin` meets its contract: what is added to an empty state is all that it holds.
+use mathlib.Core.Path.{_≡_, ap, _∙_}
+use mathlib.Core.Bool.{Bool, _||_}
+use Prim.Native.Nat.{ℕ}
+use denote.Ref.{now}
+use borrow.Author.Needs.{needs}
+use Rattle.sets.specs.Sets.{listed}
+use Rattle.facts.proofs.Laws.{kept-trans}
+use Rattle.records.specs.Words.{words}
+use Rattle.checking.proofs.stepping.begin.Statement.{statement}
+use Rattle.checking.proofs.stepping.begin.Tie as tie
+use Rattle.checking.proofs.stepping.begin.Reads as reads
+use Rattle.checking.proofs.stepping.begin.Lts as lts
+
+clear-requires : tie.Need-clear-requires
+clear-requires c κs = search needs
+
+add-all-requires : tie.Need-add-all-requires
+add-all-requires c κs = search needs
+
+same-length : tie.Need-same-length
+same-length c = search needs
+
+returns : tie.Need-returns
+returns c =
+    let added = c .before .before .add-all .ensures in
+    let cleared = c .before .before .before .before .before .before .clear .ensures in
+    record { facts = λ g. added .facts g ∙ rw (cleared .set g); kept = kept-trans (cleared .kept) (added .kept) }
+
+pub begin-spec : {M : Type 1} → statement M
+begin-spec = tie.close (tie.spec clear-requires add-all-requires same-length returns)

@@ -1,0 +1,99 @@
+-- Laws on closing called by itself: what each refusal rests on, and what a judged model has.
+use Prim.Native.Nat.{ℕ, _≤_, _<_}
+use mathlib.Core.Path.{_≡_, refl, sym, ap, _∙_, subst}
+use mathlib.Core.Logic.{_⊎_, inl, inr, ⊎-elim}
+use mathlib.Core.Bool.{Bool, true, false, true≢false, _&&_, _||_}
+use mathlib.Core.List.{List}
+use mathlib.Core.Option.{Option, none, some}
+use native.Mathlib.Nat.{lt-of-le-of-lt}
+use native.Mathlib.Omega.{arith}
+use borrow.Author.Tests.{lt-ltb, le-ltb, le-leb, ltb-true, leb-true}
+use lib.Dec.{T, leb, ltb}
+use lib.ListN.{length}
+use Rattle.sets.specs.Sets.{Facts, first, _∈_}
+use Rattle.sets.proofs.Laws.{is-true, passes, both, first-hit, first-before}
+use Rattle.meaning.specs.Model.{Clause}
+use Rattle.meaning.specs.Rounds.{rounds}
+use Rattle.facts.specs.Facts.{members, AnyFrom}
+use Rattle.facts.proofs.Laws.{below-or-from, beyond}
+use Rattle.records.specs.Records.{Fault, given, _orElse_}
+use Rattle.files.specs.Files.{section, clausesIn, factCount, modelOf, tooLong, wrongVersion, shapeFault, negatedFault, modelFault}
+use Rattle.files.proofs.Shaped.{neither}
+use Rattle.files.proofs.Laws.{facts-bound, clauses-bound, clause-below}
+use Rattle.closing.specs.Closing.{Filled, Bounded, noRoom, someFrom, refusal, answer, Table, Closes, ClosesFine}
+use Rattle.closing.specs.declared.Closed.{Closed}
+
+-- ---- a bit from F on
+
+-- a number that passes is not before the first one
+first-at-most : (p : ℕ → Bool) (n g : ℕ) → p g ≡ true → first p n ≤ g
+first-at-most p n g e = ⊎-elim (λ h. absurd (true≢false (sym e ∙ first-before p n g h))) (λ h. h) (below-or-from g (first p n))
+
+-- what `any_from` answers is whether there is one
+pub some-from : (state : List ℕ) (F : ℕ) (r : Bool) → AnyFrom state F r → r ≡ someFrom F (members state)
+unfolding someFrom
+some-from state F true a =
+    let (g, from, in-set) = a .some refl in
+    let low : g < 4096 = ⊎-elim (λ h. h) (λ h. absurd (subst T (beyond state g h) in-set)) (below-or-from g 4096) in
+    let passes : (leb F g && members state g) ≡ true = rw (le-leb F g from) (is-true in-set) in
+    sym (lt-ltb (first (λ f. leb F f && members state f) 4096) 4096 (lt-of-le-of-lt (first-at-most (λ f. leb F f && members state f) 4096 g passes) low))
+some-from state F false a =
+    sym
+    (le-ltb _ _
+    (⊎-elim (λ h. absurd (nothing (first test 4096) (first-hit test 4096 h))) (λ h. h) (below-or-from (first test 4096) 4096)))
+  where
+    test : ℕ → Bool
+    test f = leb F f && members state f
+
+    nothing : (f : ℕ) → (leb F f && members state f) ≡ true → ⊥
+    nothing f e =
+        let (from, in-set) = both (leb F f) (members state f) .0 (passes e) in
+        subst T (a .none refl f (leb-true F f (is-true from))) in-set
+
+-- ---- a judged model
+
+-- a model without a fault has none of 4 to 7
+pub fine-shape : (m : List ℕ) → modelFault m ≡ none → shapeFault m ≡ none
+unfolding modelFault
+fine-shape m e =
+    let unversioned = neither (tooLong 65536 m) (wrongVersion m orElse (shapeFault m orElse negatedFault m)) e .1 in
+    neither (shapeFault m) (negatedFault m) (neither (wrongVersion m) (shapeFault m orElse negatedFault m) unversioned .1) .0
+
+pub bounded : (m : List ℕ) → shapeFault m ≡ none → Bounded (modelOf m .clauses)
+bounded m fine = record {
+  count = clauses-bound m fine;
+  heads = λ c i. omega (arith, facts-bound m fine, clause-below m fine c i .0);
+  bodies = λ c i b h. omega (arith, facts-bound m fine, clause-below m fine c i .1 b h);
+}
+
+-- ---- the answers
+
+module _ (m state before : List ℕ) where
+  -- a bit from F on refuses, and changes nothing
+  pub fine-refused : someFrom (factCount m) (members state) ≡ true → ClosesFine m state before before (Closed.Refused 6)
+  unfolding given answer Table
+  fine-refused e = record { answers = rw e; table = rw e refl }
+
+  -- otherwise the table is filled
+  pub fine-closed : (clauses after : List ℕ) (n : ℕ) → someFrom (factCount m) (members state) ≡ false → clauses ≡ section m 2
+      → n ≡ rounds (clausesIn clauses) (members state) → Filled (clausesIn clauses) (members state) before after → ClosesFine m state before after (Closed.Rounds n)
+  unfolding given answer Table modelOf
+  fine-closed clauses after n e c r f = record {
+    answers = rw e (ap Closed.Rounds (r ∙ ap (λ (l : List ℕ). rounds (clausesIn l) (members state)) c));
+    table = rw e (subst (λ (l : List ℕ). Filled (clausesIn l) (members state) before after) c f);
+  }
+
+  -- without room
+  pub no-room : noRoom state before ≡ true → Closes m state before before (Closed.Refused 1)
+  unfolding given _orElse_ refusal answer Table
+  no-room e = record { answers = rw e; table = rw e refl }
+
+  -- a fault of the model refuses with its number
+  pub model-refused : (f : Fault) → noRoom state before ≡ false → modelFault m ≡ some f → Closes m state before before (Closed.Refused (f .number))
+  unfolding given _orElse_ refusal answer Table
+  model-refused f e h = record { answers = rw (e, h); table = rw (e, h) refl }
+
+  -- with none, the state tells
+  pub model-fine : (after : List ℕ) (r : Closed) → noRoom state before ≡ false → modelFault m ≡ none → ClosesFine m state before after r → Closes m state before after r
+  unfolding given _orElse_ refusal
+  model-fine after r e h c = record { answers = rw (e, h) (c .answers); table = rw (e, h) (c .table) }

@@ -1,0 +1,95 @@
+-- `close` meets its contract: room, then the model, then the state, each refusal before the next.
+use mathlib.Core.Path.{_≡_, refl, sym, ap, _∙_}
+use mathlib.Core.Bool.{Bool, _||_}
+use native.Mathlib.Omega.{arith}
+use denote.Ref.{now}
+use borrow.Author.Needs.{needs}
+use borrow.Author.Tests.{lt-ltb, le-ltb}
+use mathlib.Core.Bool.{false}
+use mathlib.Core.List.{List}
+use mathlib.Core.Option.{none}
+use Prim.Native.Nat.{ℕ}
+use Rattle.files.specs.Files.{modelFault}
+use Rattle.files.specs.Answers.{layoutOf}
+use Rattle.files.proofs.Answers.{judged-fine, judged-fault}
+use Rattle.closing.specs.Closing.{noRoom}
+use Rattle.closing.proofs.Alone.{no-room, model-refused, model-fine, fine-shape}
+use Rattle.closing.proofs.close.Statement.{statement}
+use Rattle.closing.proofs.close.Tie as tie
+use Rattle.closing.proofs.close.Reads as reads
+use Rattle.closing.proofs.close.Lts as lts
+
+abbrev model : tie.Start → List ℕ
+model s = now (s .args .model)
+
+abbrev state : tie.Start → List ℕ
+state s = now (s .args .state)
+
+abbrev table : tie.Start → List ℕ
+table s = now (s .args .table)
+
+-- past the two tests there is room
+roomy : (c : tie.Else2) → let s = c .before .before .before .before .before in noRoom (state s) (table s) ≡ false
+unfolding noRoom
+roomy c = rw (le-ltb _ _ (c .before .if1 .left), le-ltb _ _ (c .if2 .left))
+
+-- the model has no fault, and its layout is at hand
+model-is-fine : (c : tie.After-layout) → let m = model (c .before .before .before .before .before .before .before .before) in
+    (modelFault m ≡ none) × (layoutOf m ≡ c .layout .given .0 .0)
+model-is-fine c = judged-fine _ _ _ (c .before .before .judge-model .ensures) (c .layout .given .1)
+
+returns : tie.Need-returns
+unfolding noRoom
+returns c =
+    let s = c .before .before .before .before in
+    no-room (model s) (state s) (table s) (rw (lt-ltb _ _ (c .if1 .taken)))
+
+returns-2 : tie.Need-returns-2
+unfolding noRoom
+returns-2 c =
+    let s = c .before .before .before .before .before in
+    no-room (model s) (state s) (table s) (rw (le-ltb _ _ (c .before .if1 .left), lt-ltb _ _ (c .if2 .taken)))
+
+judge-model-requires : tie.Need-judge-model-requires
+judge-model-requires c κs = search needs
+
+enum-known-number : tie.Need-enum-known-number
+enum-known-number c = search needs
+
+enum-known-layout : tie.Need-enum-known-layout
+enum-known-layout c = search needs
+
+close-shaped-requires : tie.Need-close-shaped-requires
+close-shaped-requires c κs =
+    let fine = model-is-fine (c .before .before) in
+    (record { fine = fine-shape _ (fine .0); layout = sym (fine .1) }, c .before .before .before .before .before .if2 .left)
+
+returns-3 : tie.Need-returns-3
+returns-3 c =
+    let judged = c .before .before .before in
+    let s = judged .before .before .before .before .before .before in
+    model-refused (model s) (state s) (table s) _ (roomy (judged .before)) (judged-fault _ _ _ _ _ (judged .judge-model .ensures) (c .before .number .given .1))
+
+same-length : tie.Need-same-length
+same-length c = search needs
+
+returns-4 : tie.Need-returns-4
+returns-4 c =
+    let layout = c .before .before .before .before .before in
+    let tested = layout .before .before .before in
+    let s = tested .before .before .before .before .before in
+    model-fine (model s) (state s) (table s) _ _ (roomy tested) (model-is-fine layout .0) (c .before .before .close-shaped .ensures)
+
+pub close-spec : {M : Type 1} → statement M
+close-spec =
+    tie.close
+    (tie.spec
+    returns
+    returns-2
+    judge-model-requires
+    enum-known-number
+    enum-known-layout
+    close-shaped-requires
+    returns-3
+    same-length
+    returns-4)

@@ -1,0 +1,72 @@
+-- What closing promises: the round table that it leaves and the number that it answers (document 01, "Closing is one part", "Buffers").
+use Prim.Native.Nat.{ℕ, _<_, _≤_}
+use mathlib.Core.Path.{_≡_}
+use mathlib.Core.Bool.{Bool, not, _&&_, _||_}
+use mathlib.Core.List.{List}
+use mathlib.Core.Option.{Option, none, some, Option·map}
+use lib.Dec.{leb, ltb, eqb}
+use lib.ListN.{length, getD, drop}
+use Rattle.sets.specs.Sets.{Facts, first, _∈_}
+use Rattle.meaning.specs.Model.{Clause}
+use Rattle.meaning.specs.Rounds.{rounds, roundNumber}
+use Rattle.facts.specs.Facts.{members}
+use Rattle.records.specs.Records.{Fault, given, _orElse_}
+use Rattle.files.specs.Files.{factCount, modelOf, modelFault}
+use Rattle.closing.specs.declared.Closed.{Closed}
+
+-- ---- the round table
+
+-- "The first 4,096 table entries hold that state's round numbers .. Anything beyond is unchanged."
+pub record Filled (cs : List Clause) (S : Facts) (before after : List ℕ) : Type 0 where
+  pub length : length after ≡ length before
+  pub entries : (f : ℕ) → f < 4096 → getD after f 0 ≡ roundNumber cs S f
+  pub beyond : drop 4096 after ≡ drop 4096 before
+
+-- the facts that have a round number in the table
+unfoldable pub numbered : List ℕ → Facts
+numbered table f = ltb f 4096 && not (eqb (getD table f 0) 65535)
+
+-- the clauses of a judged model: "Clauses 4,096", and every fact below 4,096
+pub record Bounded (cs : List Clause) : Type 0 where
+  pub count : length cs ≤ 4096
+  pub heads : (c : Clause) → c ∈ cs → c .head < 4096
+  pub bodies : (c : Clause) → c ∈ cs → (b : ℕ) → b ∈ c .body → b < 4096
+
+-- ---- closing called by itself
+
+-- 1: "state buffer under 512 bytes or round table under 4,096 entries"
+unfoldable pub noRoom : List ℕ → List ℕ → Bool
+noRoom state table = ltb (length state) 512 || ltb (length table) 4096
+
+-- "a bit set from F on in its first 512 bytes": the first fact from F on is below 4,096
+unfoldable pub someFrom : ℕ → Facts → Bool
+unfolding first
+someFrom F S = ltb (first (λ f. leb F f && S f) 4096) 4096
+
+-- "it gives 1 to 8 below for what it is lent, then 6 for a starting state with a bit set from F on": the refusal's number
+unfoldable pub refusal : List ℕ → List ℕ → List ℕ → Option ℕ
+unfolding given _orElse_ noRoom modelFault someFrom factCount members
+refusal model state table =
+    given (noRoom state table) 1
+    orElse Option·map (λ f. f .number) (modelFault model)
+    orElse given (someFrom (factCount model) (members state)) 6
+
+-- "A refusal .. is its number alone.", otherwise it "answers the number of rounds"
+unfoldable pub answer : Option ℕ → ℕ → Closed
+answer none n = Closed.Rounds n
+answer (some k) n = Closed.Refused k
+
+-- "On a refusal closing changes nothing. Otherwise it .. fills the round table as for a verdict"
+unfoldable pub Table : Option ℕ → List Clause → Facts → List ℕ → List ℕ → Type 0
+Table none cs S before after = Filled cs S before after
+Table (some k) cs S before after = after ≡ before
+
+-- the same for a model that nothing refuses and a table with room
+pub record ClosesFine (model state before after : List ℕ) (r : Closed) : Type 0 where
+  pub answers : r ≡ answer (given (someFrom (factCount model) (members state)) 6) (rounds (modelOf model .clauses) (members state))
+  pub table : Table (given (someFrom (factCount model) (members state)) 6) (modelOf model .clauses) (members state) before after
+
+-- what closing promises: its answer, and every entry of the table
+pub record Closes (model state before after : List ℕ) (r : Closed) : Type 0 where
+  pub answers : r ≡ answer (refusal model state before) (rounds (modelOf model .clauses) (members state))
+  pub table : Table (refusal model state before) (modelOf model .clauses) (members state) before after

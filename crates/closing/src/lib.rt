@@ -1,0 +1,157 @@
+// Closing: the rounds of a state under a model's clauses, in a lent round table. The table is the only memory: in the sweep
+// for round r + 1 a body fact counts where its number is at most r, so that a head found in this sweep cannot help in it.
+ghost use mathlib.Core.Path.{_≡_};
+ghost use mathlib.Core.Bool.{cond};
+ghost use lib.Dec.{eqb};
+ghost use Prim.Native.Nat.{_+_, _≤_, _<_};
+ghost use lib.ListN.{length, getD};
+ghost use Rattle.sets.specs.Sets.{every};
+ghost use Rattle.meaning.specs.Rounds.{rounds};
+ghost use Rattle.facts.specs.Facts.{members};
+ghost use Rattle.records.specs.Words.{words};
+ghost use Rattle.records.specs.Answers.{AllCut};
+ghost use Rattle.records.specs.declared.Kind.{Kind};
+ghost use Rattle.files.specs.Files.{clausesIn};
+ghost use Rattle.files.specs.Answers.{Shaped};
+ghost use Rattle.closing.specs.Closing.{Filled, Bounded, Closes, ClosesFine};
+ghost use Rattle.closing.specs.Sweep.{Written, Started, stored, Body, upTo, swept, adds};
+use files::Judged;
+use files::Layout;
+use files::held;
+use files::model;
+
+// What closing answers: the number of rounds, or a refusal's number.
+pub enum Closed {
+    Rounds(usize),
+    Refused(u8),
+}
+
+// The state's bytes: eight facts each.
+const BYTES: usize = 512;
+
+const OUTSIDE: u16 = 65535;
+
+// The byte at a place of the state, 0 where the state is shorter.
+fn byte_at(state: &[u8], i: usize) -> u16
+    ensures { λ r. ⌜ r ≡ getD (now (state .entry)) i 0 ⌝ }
+{
+    if i < state.len() { state[i] as u16 } else { 0 }
+}
+
+// Round 0 of a fact, by its bit.
+fn number(bit: u16) -> u16
+    ensures { λ r. ⌜ r ≡ cond (eqb bit 1) 0 65535 ⌝ }
+{
+    if bit == 1 { 0 } else { OUTSIDE }
+}
+
+// Round 0 of the eight facts of one byte.
+fn start_byte(b: u16, table: &mut [u16], at: usize)
+    requires { ⌜ at + 8 ≤ length (now table) ⌝ }
+    ensures { λ _. ⌜ Started b at 8 (now (table .entry)) (now (table .exit)) ⌝ }
+{
+    for k in 0..8 {
+        table[at + k] = number((b >> k) % 2);
+    }
+}
+
+// Round 0: each stored fact has the number 0, every other none.
+fn start(state: &[u8], table: &mut [u16])
+    requires { ⌜ 4096 ≤ length (now table) ⌝ }
+    ensures { λ _. ⌜ Written (stored (members (now (state .entry)))) (now (table .entry)) (now (table .exit)) ⌝ }
+{
+    for i in 0..BYTES {
+        let b = byte_at(state, i);
+        // A byte with no fact, as most are, is one store.
+        if b == 0 {
+            start_byte(0, table, i * 8);
+        } else {
+            start_byte(b, table, i * 8);
+        }
+    }
+}
+
+// Whether every fact of these bytes has a number of at most r.
+fn stands(body: &[u8], table: &[u16], r: u16) -> bool
+    requires { ⌜ Body (now body) × (4096 ≤ length (now table)) ⌝ }
+    ensures { λ answer. ⌜ answer ≡ every (upTo (now (table .entry)) r) (words (now (body .entry))) ⌝ }
+{
+    let mut i = 0;
+    while i < body.len() {
+        if r < table[records::word_at(body, i)] {
+            return false;
+        }
+        i += 2;
+    }
+    true
+}
+
+// One round more: every head whose body stands in round r, and that has no number yet, gets r + 1. Answers whether there was one.
+fn sweep(clauses: &[u8], table: &mut [u16], r: u16) -> bool
+    requires { ⌜ AllCut Kind.Clause (now clauses) × Bounded (clausesIn (now clauses)) × (4096 ≤ length (now table)) × (r < 65535) ⌝ }
+    ensures { λ answer. ⌜ (answer ≡ adds (clausesIn (now (clauses .entry))) r (now (table .entry)))
+        × Written (swept (clausesIn (now (clauses .entry))) r (now (table .entry))) (now (table .entry)) (now (table .exit)) ⌝ }
+{
+    let mut added = false;
+    let mut at = 0;
+    while at < clauses.len() {
+        let end = at + 2 + records::word_at(clauses, at);
+        let clause = &clauses[at..end];
+        let head = records::word_at(clause, 2);
+        if table[head] == OUTSIDE {
+            if stands(&clause[4..], table, r) {
+                table[head] = r + 1;
+                added = true;
+            }
+        }
+        at = end;
+    }
+    added
+}
+
+// The rounds of a state under judged clauses: the number of rounds, and each fact's round number in the table. The caller has judged
+// the clauses' section and lends at least 4,096 entries.
+pub fn close_judged(clauses: &[u8], state: &[u8], table: &mut [u16]) -> usize
+    requires { ⌜ AllCut Kind.Clause (now clauses) × Bounded (clausesIn (now clauses)) × (4096 ≤ length (now table)) ⌝ }
+    ensures { λ r. ⌜ (r ≡ rounds (clausesIn (now (clauses .entry))) (members (now (state .entry))))
+        × Filled (clausesIn (now (clauses .entry))) (members (now (state .entry))) (now (table .entry)) (now (table .exit)) ⌝ }
+{
+    start(state, table);
+    let mut r: u16 = 0;
+    while sweep(clauses, table, r) {
+        r += 1;
+    }
+    r as usize
+}
+
+// Closes under a judged model's clauses, where the state has no fact of F or more.
+fn close_shaped(model: &[u8], layout: Layout, state: &[u8], table: &mut [u16]) -> Closed
+    requires { ⌜ Shaped (now model) layout × (4096 ≤ length (now table)) ⌝ }
+    ensures { λ r. ⌜ ClosesFine (now (model .entry)) (now (state .entry)) (now (table .entry)) (now (table .exit)) r ⌝ }
+{
+    let facts = layout.facts;
+    if facts::any_from(state, facts) {
+        return Closed::Refused(6);
+    }
+    Closed::Rounds(close_judged(held::clauses(model, layout), state, table))
+}
+
+// Closing called by itself: judges what it is lent, fills the round table and answers the number of rounds, or refuses and changes nothing.
+pub fn close(model: &[u8], state: &[u8], table: &mut [u16]) -> Closed
+    ensures { λ r. ⌜ Closes (now (model .entry)) (now (state .entry)) (now (table .entry)) (now (table .exit)) r ⌝ }
+{
+    if state.len() < 512 {
+        return Closed::Refused(1);
+    }
+    if table.len() < 4096 {
+        return Closed::Refused(1);
+    }
+    match model::judge_model(model) {
+        Judged::Fault {
+            number,
+            start: _,
+            size: _,
+        } => Closed::Refused(number),
+        Judged::Fine(layout) => close_shaped(model, layout, state, table),
+    }
+}

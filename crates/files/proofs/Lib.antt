@@ -1,0 +1,7 @@
+pub mod Shaped
+pub mod Parts
+pub mod Answers
+pub mod Order
+pub mod Laws
+pub mod Entries
+pub mod Traces

@@ -1,0 +1,49 @@
+-- `files::model::negated_section` meets its contract: what `first_negated` finds in the section stands at its place in the model.
+use mathlib.Core.Path.{_≡_, _∙_, sym}
+use mathlib.Core.Option.{some}
+use native.Mathlib.Omega.{arith}
+use denote.Ref.{now}
+use Rattle.records.specs.Records.{firstFault, negated}
+use Rattle.records.specs.Answers.{headIn}
+use Rattle.records.proofs.Laws.{found-fine, found-fault}
+use Rattle.files.specs.Sections.{moved}
+use Rattle.files.specs.Answers.{judged}
+use Rattle.files.proofs.Parts.{fault-within}
+use borrow.Author.Needs.{needs}
+use Rattle.files.proofs.model.negated_section.Statement.{statement}
+use Rattle.files.proofs.model.negated_section.Tie as tie
+
+first-negated-requires : tie.Need-first-negated-requires
+first-negated-requires c κs = search needs
+
+enum-told : tie.Need-enum-told
+enum-told c = search needs
+
+enum-known-number : tie.Need-enum-known-number
+enum-known-number c = search needs
+
+add-t11 : tie.Need-add-t11
+add-t11 c = search needs
+
+-- the fault, where one was found
+read-fault : (c : tie.After-number)
+    → let args = c .before .before .before .before .before .args in
+    firstFault (negated (args .kind) (headIn (now (args .clauses)))) (now (args .section))
+    ≡ some (record { number = c .number .given .0 .0; start = c .number .given .0 .1 .0; size = c .number .given .0 .1 .1 .0 })
+read-fault c = found-fault _ _ _ _ _ (sym (c .before .before .first-negated .ensures) ∙ c .number .given .1)
+
+add-t12 : tie.Need-add-t12
+add-t12 c = omega (arith, fault-within _ _ _ (read-fault (c .before)))
+
+returns : tie.Need-returns
+unfolding judged
+returns c = rw (found-fine _ _ _ (sym (c .before .before .first-negated .ensures) ∙ c .enum-told .given .1) .0)
+
+returns-2 : tie.Need-returns-2
+unfolding judged moved
+returns-2 c = rw (read-fault (c .before))
+
+pub negated-section-spec : {M : Type 1} → statement M
+negated-section-spec =
+    tie.close
+    (tie.spec first-negated-requires enum-told enum-known-number add-t11 add-t12 returns returns-2)

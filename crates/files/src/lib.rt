@@ -1,0 +1,54 @@
+// Reads model and trace files: the first fault of a pair with the bytes at fault, and the sections of a judged model.
+// sections: one section of a file; model: a model's faults; trace: a trace's; both: the pair in document 01's order, and the part at fault;
+// held: what a judged model holds.
+pub mod both;
+pub mod held;
+pub mod model;
+pub mod sections;
+pub mod trace;
+
+// Where the lengths of a judged model's sections stand, where the last section ends, and how many rules and attack states there are.
+pub struct Layout {
+    pub facts: usize,
+    pub initial: usize,
+    pub clauses: usize,
+    pub rules: usize,
+    pub goals: usize,
+    pub end: usize,
+    pub rulecount: usize,
+    pub goalcount: usize,
+}
+
+// What one section is: fine, with its end and how many records it has, or at fault.
+pub enum Passed {
+    To {
+        end: usize,
+        count: usize,
+    },
+    Fault {
+        number: u8,
+        start: usize,
+        size: usize,
+    },
+}
+
+// What a model is.
+pub enum Judged {
+    Fine(Layout),
+    Fault {
+        number: u8,
+        start: usize,
+        size: usize,
+    },
+}
+
+// What a pair of files is; the mark says whose bytes are at fault, 0 the model's, 1 the trace's.
+pub enum Pair {
+    Fine(Layout),
+    Fault {
+        number: u8,
+        mark: u8,
+        start: usize,
+        size: usize,
+    },
+}

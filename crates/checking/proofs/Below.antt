@@ -1,7 +1,7 @@
 -- A run stays below F: no state that it reaches has a fact that the model does not count.
 use Prim.Native.Nat.{ℕ, _+_, _-_, _≤_, _<_}
 use mathlib.Core.Path.{_≡_, refl, sym, ap, _∙_}
-use mathlib.Core.Bool.{Bool, true, false, not, _&&_, _||_}
+use mathlib.Core.Bool.{false}
 use mathlib.Core.List.{List, [], _∷_}
 use mathlib.Core.Option.{Option, none, some}
 use native.Mathlib.Nat.{zero-add, add-sub-of-le}
@@ -11,7 +11,7 @@ use Rattle.sets.specs.Sets.{Facts, listed, size, _∈_}
 use Rattle.sets.proofs.Laws.{listed-is, is-false}
 use Rattle.meaning.specs.Model.{Model, Rule, Trace, ruleOf, goalOf}
 use Rattle.meaning.specs.Rounds.{closure}
-use Rattle.meaning.specs.Run.{Outcome, unmet, after, stopped, later, runFrom, run}
+use Rattle.meaning.specs.Run.{unmet, after, stopped, later, runFrom, run}
 
 -- no fact of F or more is in the set
 unfoldable pub Below : ℕ → Facts → Type 0

@@ -6,8 +6,8 @@ use mathlib.Core.List.{List, _∷_, List·Memᴰ·head, List·Memᴰ·tail}
 use native.Mathlib.Omega.{arith}
 use lib.Dec.{eqb}
 use lib.ListN.{length, drop, length-drop}
-use Rattle.sets.specs.Sets.{any, listed, _∈_}
-use Rattle.facts.specs.Facts.{members, Kept}
+use Rattle.sets.specs.Sets.{any, listed}
+use Rattle.facts.specs.Facts.{members}
 use Rattle.records.specs.Words.{word, words}
 use Rattle.records.proofs.Words.{words-at, words-none}
 use Rattle.checking.specs.Stepping.{Known}

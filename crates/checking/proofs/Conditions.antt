@@ -5,19 +5,18 @@ use mathlib.Core.Bool.{Bool, true, false, not}
 use mathlib.Core.List.{List, [], _∷_, List·Memᴰ·head, List·Memᴰ·tail}
 use mathlib.Core.Option.{Option, none, some}
 use native.Mathlib.Omega.{arith}
-use lib.Dec.{T, eqb}
+use lib.Dec.{eqb}
 use lib.ListN.{length, getD, drop, length-drop}
 use borrow.Author.Tests.{eq-eqb, ne-eqb}
 use Rattle.sets.specs.Sets.{Facts, _∈_}
-use Rattle.sets.proofs.Laws.{by-test, passes, fails, is-false}
+use Rattle.sets.proofs.Laws.{by-test, passes, fails}
 use Rattle.meaning.specs.Model.{Clause}
-use Rattle.meaning.specs.Rounds.{closure, roundNumber}
+use Rattle.meaning.specs.Rounds.{closure}
 use Rattle.meaning.specs.Run.{find, unmet}
 use Rattle.meaning.proofs.Theorems.{roundNumber-outside}
 use Rattle.records.specs.Words.{word, words}
 use Rattle.records.proofs.Words.{words-at, words-none}
 use Rattle.closing.specs.Closing.{Filled}
-use Rattle.checking.specs.Stepping.{Known}
 
 -- the fact has no round number in the table
 abbrev pub outside : List ℕ → ℕ → Bool

@@ -1,12 +1,10 @@
 -- What a pair that nothing refuses has, as the run needs it.
 use Prim.Native.Nat.{ℕ, _+_, _*_, _≤_, _<_}
-use mathlib.Core.Path.{_≡_, refl, sym, ap, _∙_, subst}
+use mathlib.Core.Path.{_≡_, sym, ap, _∙_, subst}
 use mathlib.Core.Logic.{_⊎_, inl, inr, ⊎-elim}
-use mathlib.Core.Bool.{Bool, true, false, _||_, cond}
-use mathlib.Core.List.{List, [], _∷_, map, List·Memᴰ·not-nil, List·Memᴰ·head, List·Memᴰ·tail}
-use mathlib.Core.Option.{Option, none, some, Option·none-ne-some, Option·some-injective}
-use lib.Dec.{ltb, lit<}
-use lib.Seq.{drop-drop}
+use mathlib.Core.List.{List, [], List·Memᴰ·not-nil}
+use mathlib.Core.Option.{none}
+use lib.Dec.{lit<}
 use native.Mathlib.Omega.{arith}
 use borrow.Author.Tests.{lt-ltb, le-ltb}
 use lib.ListN.{length, getD, drop, length-map, List·getD-map, List·getD-eq-default}
@@ -16,14 +14,14 @@ use Rattle.meaning.specs.Model.{Clause, Rule, Goal, Model, Trace, ruleOf, goalO
 use Rattle.meaning.specs.Rounds.{rounds}
 use Rattle.meaning.proofs.Theorems.{rounds-bound, missingHeads-bound}
 use Rattle.facts.proofs.Laws.{below-or-from}
-use Rattle.records.specs.Words.{word, words, odd}
-use Rattle.records.specs.Records.{recordOf, records, whole, cut, cutClause, listsOf, listOf, most, judge, firstFault}
+use Rattle.records.specs.Words.{word}
+use Rattle.records.specs.Records.{recordOf, records, whole, cut, listsOf, listOf, judge, firstFault}
 use Rattle.records.specs.Answers.{AllCut, Cut, placeOf}
 use Rattle.records.specs.declared.Kind.{Kind}
 use Rattle.records.specs.declared.Kind.the-variants as kind
-use Rattle.records.proofs.Laws.{judged-cut, judged-count, judged-facts}
+use Rattle.records.proofs.Laws.{judged-cut, judged-facts}
 use Rattle.records.proofs.Places.{place-record, place-le, record-in}
-use Rattle.files.specs.Files.{pairFault, factCount, modelOf, traceOf, section, clauseOf, clausesIn, ruleIn, goalIn}
+use Rattle.files.specs.Files.{pairFault, factCount, modelOf, traceOf, section, clausesIn, ruleIn, goalIn}
 use Rattle.files.specs.Answers.{layoutOf, Shaped}
 use Rattle.files.specs.declared.Layout.{Layout}
 use Rattle.files.specs.Sections.{sectionAt}

@@ -1,11 +1,11 @@
 -- Laws on refusals: what each leaves of the verdict and the buffers.
 use Prim.Native.Nat.{ℕ}
 use mathlib.Core.Path.{_≡_, refl, sym, ap, _∙_}
-use mathlib.Core.Bool.{Bool, true, false}
+use mathlib.Core.Bool.{true, false}
 use mathlib.Core.List.{List}
 use mathlib.Core.Option.{Option, none, some}
 use mathlib.Core.Logic.{_⊎_, ⊎-elim}
-use Rattle.records.specs.Records.{Fault, given, _orElse_}
+use Rattle.records.specs.Records.{given, _orElse_}
 use Rattle.files.specs.Files.{Blamed, pairFault, modelOf}
 use Rattle.files.specs.Files.Blamed.{model, trace}
 use Rattle.closing.specs.Closing.{noRoom}

@@ -1,19 +1,19 @@
 -- Laws on the search: along one list of conditions, and from step to step.
 use Prim.Native.Nat.{ℕ, _+_, _*_, _%_, _≤_, _<_}
-use mathlib.Core.Path.{_≡_, refl, sym, ap, _∙_, subst, fun-ext}
-use mathlib.Core.Bool.{Bool, true, false, cond}
+use mathlib.Core.Path.{_≡_, refl, sym, ap, _∙_, fun-ext}
+use mathlib.Core.Bool.{Bool, true, false}
 use mathlib.Core.List.{List}
 use mathlib.Core.Logic.{⊎-elim}
-use mathlib.Core.Option.{Option, none, some}
+use mathlib.Core.Option.{none, some}
 use native.Mathlib.Nat.{zero-add, add-zero}
 use native.Mathlib.Omega.{arith}
-use borrow.Author.Tests.{lt-ltb, le-ltb, eq-eqb, ne-eqb}
+use borrow.Author.Tests.{lt-ltb, le-ltb, ne-eqb}
 use lib.Dec.{ltb, lit<}
 use lib.ListN.{length, getD, drop}
-use Rattle.sets.specs.Sets.{Facts, listed, size}
-use Rattle.meaning.specs.Model.{Model, Trace, Clause, Rule, ruleOf}
+use Rattle.sets.specs.Sets.{Facts, listed}
+use Rattle.meaning.specs.Model.{Model, Trace, ruleOf}
 use Rattle.meaning.specs.Rounds.{rounds, roundNumber}
-use Rattle.meaning.specs.Run.{Outcome, find, after, stopped, later, run}
+use Rattle.meaning.specs.Run.{Outcome, find, after, stopped, run}
 use Rattle.facts.specs.Facts.{members, Kept}
 use Rattle.facts.proofs.Laws.{kept-same, kept-trans, below-or-from}
 use Rattle.records.specs.Words.{word, words}

@@ -9,7 +9,7 @@ use lib.ListN.{length, getD}
 use Rattle.meaning.specs.Model.{Model}
 use Rattle.meaning.specs.Run.{Outcome, run}
 use Rattle.facts.specs.Facts.{members, Kept}
-use Rattle.records.specs.Records.{Fault, given, _orElse_, records}
+use Rattle.records.specs.Records.{given, _orElse_, records}
 use Rattle.records.specs.Answers.{placeOf}
 use Rattle.files.specs.Sections.{sectionAt}
 use Rattle.files.specs.Files.{Blamed, section, modelOf, traceOf, pairFault}

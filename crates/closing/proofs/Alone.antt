@@ -1,18 +1,16 @@
 -- Laws on closing called by itself: what each refusal rests on, and what a judged model has.
 use Prim.Native.Nat.{ℕ, _≤_, _<_}
 use mathlib.Core.Path.{_≡_, refl, sym, ap, _∙_, subst}
-use mathlib.Core.Logic.{_⊎_, inl, inr, ⊎-elim}
-use mathlib.Core.Bool.{Bool, true, false, true≢false, _&&_, _||_}
+use mathlib.Core.Logic.{⊎-elim}
+use mathlib.Core.Bool.{Bool, true, false, true≢false, _&&_}
 use mathlib.Core.List.{List}
-use mathlib.Core.Option.{Option, none, some}
+use mathlib.Core.Option.{none, some}
 use native.Mathlib.Nat.{lt-of-le-of-lt}
 use native.Mathlib.Omega.{arith}
-use borrow.Author.Tests.{lt-ltb, le-ltb, le-leb, ltb-true, leb-true}
-use lib.Dec.{T, leb, ltb}
-use lib.ListN.{length}
-use Rattle.sets.specs.Sets.{Facts, first, _∈_}
+use borrow.Author.Tests.{lt-ltb, le-ltb, le-leb, leb-true}
+use lib.Dec.{T, leb}
+use Rattle.sets.specs.Sets.{first}
 use Rattle.sets.proofs.Laws.{is-true, passes, both, first-hit, first-before}
-use Rattle.meaning.specs.Model.{Clause}
 use Rattle.meaning.specs.Rounds.{rounds}
 use Rattle.facts.specs.Facts.{members, AnyFrom}
 use Rattle.facts.proofs.Laws.{below-or-from, beyond}

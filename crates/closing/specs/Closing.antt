@@ -10,7 +10,7 @@ use Rattle.sets.specs.Sets.{Facts, first, _∈_}
 use Rattle.meaning.specs.Model.{Clause}
 use Rattle.meaning.specs.Rounds.{rounds, roundNumber}
 use Rattle.facts.specs.Facts.{members}
-use Rattle.records.specs.Records.{Fault, given, _orElse_}
+use Rattle.records.specs.Records.{given, _orElse_}
 use Rattle.files.specs.Files.{factCount, modelOf, modelFault}
 use Rattle.closing.specs.declared.Closed.{Closed}
 

@@ -1,8 +1,8 @@
 -- Models and traces as files: the lists that a file is, and the first fault of a model, of a trace and of a pair (document 01, "File layouts", "Bounds", "Verdict numbers and the order").
 use Prim.Native.Nat.{ℕ, zero, suc, _+_, _*_}
-use mathlib.Core.Bool.{Bool, true, false, not, _||_, cond}
-use mathlib.Core.List.{List, [], _∷_, map}
-use mathlib.Core.Option.{Option, none, some, Option·map}
+use mathlib.Core.Bool.{Bool, not, _||_}
+use mathlib.Core.List.{List, map}
+use mathlib.Core.Option.{Option, Option·map}
 use lib.Dec.{leb, ltb, eqb}
 use lib.ListN.{length, take, drop, getD}
 use Rattle.sets.specs.Sets.{any, first}

@@ -3,7 +3,7 @@ use Prim.Native.Nat.{ℕ}
 use mathlib.Core.Path.{_≡_}
 use mathlib.Core.List.{List, [], _∷_}
 use Rattle.sets.specs.Sets.{_∈_}
-use Rattle.meaning.specs.Model.{Clause, Rule, Goal, Model, Trace}
+use Rattle.meaning.specs.Model.{Clause, Model, Trace}
 use Rattle.meaning.specs.Run.{Line, line}
 
 infix 80 _from_

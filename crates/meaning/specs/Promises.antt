@@ -1,12 +1,12 @@
 -- What demands 2 and 3 promise, as statements about the definitions beside this file. proofs/Theorems.antt proves each of them.
-use Prim.Native.Nat.{ℕ, _+_, _<_, _≤_}
+use Prim.Native.Nat.{ℕ, _+_, _<_}
 use mathlib.Core.Path.{_≡_}
 use mathlib.Core.List.{List, _∷_, _++_}
 use lib.Dec.{T}
 use lib.ListN.{length, getD, take}
 use Rattle.sets.specs.Sets.{Facts, listed, size, _∈_}
 use Rattle.meaning.specs.Model.{Clause, Model, Trace, ruleOf, goalOf}
-use Rattle.meaning.specs.Rounds.{round, rounds, closure, roundNumber, missingHeads}
+use Rattle.meaning.specs.Rounds.{round, rounds, closure, roundNumber}
 use Rattle.meaning.specs.Run.{Outcome}
 use Rattle.meaning.specs.Published.{HC, Path, AttackMet}
 use Rattle.meaning.specs.Published.Path.{here, step}

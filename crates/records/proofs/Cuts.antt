@@ -11,7 +11,7 @@ use lib.Dec.{leb, ltb}
 use lib.ListN.{length, take, drop, getD, length-drop}
 use lib.Seq.{length-take-le}
 use Rattle.records.specs.Words.{word, words, odd}
-use Rattle.records.specs.Records.{recordOf, records, cutLists, cutClause, cut, whole, listsOf, listOf}
+use Rattle.records.specs.Records.{recordOf, cutLists, cutClause, cut, whole, listsOf, listOf}
 use Rattle.records.specs.Answers.{Cut, AllCut, listCount}
 use Rattle.records.specs.declared.Kind.{Kind}
 use Rattle.records.specs.declared.Kind.the-variants.{Clause, Rule, Goal}

@@ -1,6 +1,6 @@
 -- `check` meets its contract: room, then the pair's first fault, then the run.
-use Prim.Native.Nat.{ℕ, _≤_}
-use mathlib.Core.Path.{_≡_, refl, sym, ap, _∙_}
+use Prim.Native.Nat.{ℕ}
+use mathlib.Core.Path.{_≡_, sym, ap, _∙_}
 use mathlib.Core.Bool.{false}
 use mathlib.Core.List.{List}
 use mathlib.Core.Option.{Option, none, some}
@@ -15,8 +15,6 @@ use Rattle.closing.specs.Closing.{noRoom}
 use Rattle.checking.proofs.Refusals.{checked-refused, checked-run, no-room, blames-none, checked-blamed}
 use Rattle.checking.proofs.check.Statement.{statement}
 use Rattle.checking.proofs.check.Tie as tie
-use Rattle.checking.proofs.check.Reads as reads
-use Rattle.checking.proofs.check.Lts as lts
 
 module _ (s : tie.Start) where
   abbrev model : List ℕ

@@ -1,7 +1,5 @@
 -- `close` meets its contract: room, then the model, then the state, each refusal before the next.
-use mathlib.Core.Path.{_≡_, refl, sym, ap, _∙_}
-use mathlib.Core.Bool.{Bool, _||_}
-use native.Mathlib.Omega.{arith}
+use mathlib.Core.Path.{_≡_, sym}
 use denote.Ref.{now}
 use borrow.Author.Needs.{needs}
 use borrow.Author.Tests.{lt-ltb, le-ltb}
@@ -16,8 +14,6 @@ use Rattle.closing.specs.Closing.{noRoom}
 use Rattle.closing.proofs.Alone.{no-room, model-refused, model-fine, fine-shape}
 use Rattle.closing.proofs.close.Statement.{statement}
 use Rattle.closing.proofs.close.Tie as tie
-use Rattle.closing.proofs.close.Reads as reads
-use Rattle.closing.proofs.close.Lts as lts
 
 abbrev model : tie.Start → List ℕ
 model s = now (s .args .model)

@@ -1,9 +1,7 @@
 -- `close_shaped` meets its contract: a bit from F on is refused, else the clauses at hand are the model's.
-use mathlib.Core.Path.{_≡_, refl, sym, ap, _∙_, subst}
+use mathlib.Core.Path.{_≡_, sym, ap, _∙_, subst}
 use Prim.Native.Nat.{ℕ}
 use mathlib.Core.List.{List}
-use mathlib.Core.Bool.{Bool}
-use native.Mathlib.Omega.{arith}
 use denote.Ref.{now}
 use borrow.Author.Needs.{needs}
 use Rattle.facts.specs.Facts.{members}
@@ -17,8 +15,6 @@ use Rattle.closing.specs.Closing.{Bounded, someFrom}
 use Rattle.closing.proofs.Alone.{some-from, bounded, fine-refused, fine-closed}
 use Rattle.closing.proofs.close_shaped.Statement.{statement}
 use Rattle.closing.proofs.close_shaped.Tie as tie
-use Rattle.closing.proofs.close_shaped.Reads as reads
-use Rattle.closing.proofs.close_shaped.Lts as lts
 
 -- what was answered is whether a bit from F on is set
 from-is : (c : tie.After-any-from) → let s = c .before .before .before .before in c .any-from .result ≡ someFrom (factCount (now (s .args .model))) (members (now (s .args .state)))

@@ -1,5 +1,5 @@
 -- `asked` meets its contract: the record at the place of the rule that the step names, or of the attack state.
-use mathlib.Core.Path.{_≡_, sym, ap, _∙_, subst}
+use mathlib.Core.Path.{_≡_, ap, _∙_}
 use mathlib.Core.List.{List}
 use Prim.Native.Nat.{ℕ, _+_, _*_}
 use native.Mathlib.Omega.{arith}
@@ -9,12 +9,9 @@ use borrow.Author.Needs.{needs}
 use Rattle.records.specs.Words.{word}
 use Rattle.records.specs.Records.{recordOf, records}
 use Rattle.records.specs.Answers.{placeOf}
-use Rattle.files.specs.Files.{section}
 use Rattle.checking.proofs.Fine
 use Rattle.checking.proofs.running.asked.Statement.{statement}
 use Rattle.checking.proofs.running.asked.Tie as tie
-use Rattle.checking.proofs.running.asked.Reads as reads
-use Rattle.checking.proofs.running.asked.Lts as lts
 
 -- the trace has room for the attack state's number and its steps
 size-is : (s : tie.Start) → length (now (s .args .trace)) ≡ 7 + 2 * s .args .steps

@@ -1,7 +1,7 @@
 -- `run` meets its contract: it begins with the initial state and its rounds, and the search and the verdict do the rest.
-use mathlib.Core.Path.{_≡_, sym, ap, _∙_, subst}
+use mathlib.Core.Path.{sym, _∙_, subst}
 use mathlib.Core.List.{List}
-use Prim.Native.Nat.{ℕ, _≤_}
+use Prim.Native.Nat.{ℕ}
 use native.Mathlib.Omega.{arith}
 use denote.Ref.{now}
 use lib.ListN.{length}
@@ -16,8 +16,6 @@ use Rattle.checking.proofs.Searching.{begun, left-from}
 use Rattle.checking.proofs.Fine
 use Rattle.checking.proofs.running.run.Statement.{statement}
 use Rattle.checking.proofs.running.run.Tie as tie
-use Rattle.checking.proofs.running.run.Reads as reads
-use Rattle.checking.proofs.running.run.Lts as lts
 
 abbrev model : tie.Start → List ℕ
 model s = now (s .args .model)

@@ -1,6 +1,6 @@
 -- `search` meets its contract: at the head of the outer loop the buffers hold the state reached and the outcome is that of the run from there on (`On`); along
 -- P and N the first condition not met is one of those still ahead (`Walk`).
-use Prim.Native.Nat.{ℕ, _+_, _-_, _*_, _%_, _≤_, _<_}
+use Prim.Native.Nat.{ℕ, _-_, _%_, _≤_, _<_}
 use mathlib.Core.Path.{_≡_, refl, sym, ap, _∙_, subst}
 use mathlib.Core.Bool.{not}
 use mathlib.Core.Option.{Option, none, some}
@@ -31,16 +31,6 @@ use Rattle.checking.proofs.Runs.{Unmet}
 use Rattle.checking.proofs.Fine
 use Rattle.checking.proofs.running.search.Statement.{statement}
 use Rattle.checking.proofs.running.search.Tie as tie
-use Rattle.checking.proofs.running.search.Reads as reads
-use Rattle.checking.proofs.running.search.Lts as lts
-use Rattle.checking.proofs.running.asked.Reads as asked-reads
-use Rattle.closing.proofs.close_judged.Reads as close-judged-reads
-use Rattle.checking.proofs.running.kind_at.Reads as kind-at-reads
-use Rattle.checking.proofs.running.steps_of.Reads as steps-of-reads
-use Rattle.checking.proofs.stepping.apply.Reads as apply-reads
-use Rattle.files.proofs.held.clauses.Reads as clauses-reads
-use Rattle.records.proofs.list_of.Reads as list-of-reads
-use Rattle.records.proofs.word_at.Reads as word-at-reads
 
 abbrev Inv-loop : tie.InvT-loop
 Inv-loop model trace layout first state table clauses steps rounds step fact₀ «record» kind p at₀ fact at = (fact ≡ 65535) × Walk (outside table) p at

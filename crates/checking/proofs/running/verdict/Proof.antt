@@ -1,7 +1,7 @@
 -- `verdict` meets its contract: each of the three ways that a search ends has its number and its bytes.
 use mathlib.Core.Path.{_≡_, sym, ap, ap₂, _∙_}
 use mathlib.Core.List.{List, []}
-use Prim.Native.Nat.{ℕ, _+_, _*_, _≤_}
+use Prim.Native.Nat.{ℕ, _+_, _≤_}
 use native.Mathlib.Omega.{arith}
 use denote.Ref.{now}
 use lib.ListN.{length, drop, getD}
@@ -16,8 +16,6 @@ use Rattle.checking.proofs.Fine
 use Rattle.checking.proofs.Verdicts.{made, ran-attack, ran-blocked, ran-unmet}
 use Rattle.checking.proofs.running.verdict.Statement.{statement}
 use Rattle.checking.proofs.running.verdict.Tie as tie
-use Rattle.checking.proofs.running.verdict.Reads as reads
-use Rattle.checking.proofs.running.verdict.Lts as lts
 
 abbrev model : tie.Start → List ℕ
 model s = now (s .args .model)

@@ -1,5 +1,5 @@
 -- `add_all` meets its contract: what the facts that are left would add, and what was added, is what all of them add.
-use Prim.Native.Nat.{ℕ, _+_, _-_, _≤_}
+use Prim.Native.Nat.{ℕ, _-_, _≤_}
 use mathlib.Core.Path.{_≡_, refl, sym, ap, _∙_}
 use mathlib.Core.Bool.{Bool, _||_, and-true}
 use mathlib.Core.List.{List}
@@ -15,8 +15,6 @@ use Rattle.checking.specs.Stepping.{Known}
 use Rattle.checking.proofs.Changing.{known-here, done-one, done-all, add-idle, add-twice}
 use Rattle.checking.proofs.stepping.add_all.Statement.{statement}
 use Rattle.checking.proofs.stepping.add_all.Tie as tie
-use Rattle.checking.proofs.stepping.add_all.Reads as reads
-use Rattle.checking.proofs.stepping.add_all.Lts as lts
 
 record Inv (list state₀ state : List ℕ) (at : ℕ) : Type 0 where
   within : at ≤ length list

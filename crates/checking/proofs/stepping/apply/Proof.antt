@@ -1,22 +1,16 @@
 -- `apply` meets its contract: removing P and then adding A is the rule's effect.
-use mathlib.Core.Path.{_≡_, ap, _∙_}
-use mathlib.Core.Bool.{Bool, _||_, _&&_, not}
-use Prim.Native.Nat.{ℕ}
+use mathlib.Core.Path.{_∙_}
 use denote.Ref.{now}
 use native.Mathlib.Omega.{arith}
 use lib.Dec.{lit<}
 use Rattle.meaning.specs.Run.{after}
 use Rattle.files.specs.Files.{ruleIn}
 use borrow.Author.Needs.{needs}
-use Rattle.sets.specs.Sets.{listed}
 use Rattle.facts.proofs.Laws.{kept-trans}
-use Rattle.records.specs.Words.{words}
 use Rattle.records.specs.Answers.{listCount}
 use Rattle.checking.specs.Stepping.{Known}
 use Rattle.checking.proofs.stepping.apply.Statement.{statement}
 use Rattle.checking.proofs.stepping.apply.Tie as tie
-use Rattle.checking.proofs.stepping.apply.Reads as reads
-use Rattle.checking.proofs.stepping.apply.Lts as lts
 
 list-of-requires : tie.Need-list-of-requires
 unfolding listCount

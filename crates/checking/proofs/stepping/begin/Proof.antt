@@ -1,16 +1,9 @@
 -- `begin` meets its contract: what is added to an empty state is all that it holds.
-use mathlib.Core.Path.{_≡_, ap, _∙_}
-use mathlib.Core.Bool.{Bool, _||_}
-use Prim.Native.Nat.{ℕ}
-use denote.Ref.{now}
+use mathlib.Core.Path.{_∙_}
 use borrow.Author.Needs.{needs}
-use Rattle.sets.specs.Sets.{listed}
 use Rattle.facts.proofs.Laws.{kept-trans}
-use Rattle.records.specs.Words.{words}
 use Rattle.checking.proofs.stepping.begin.Statement.{statement}
 use Rattle.checking.proofs.stepping.begin.Tie as tie
-use Rattle.checking.proofs.stepping.begin.Reads as reads
-use Rattle.checking.proofs.stepping.begin.Lts as lts
 
 clear-requires : tie.Need-clear-requires
 clear-requires c κs = search needs

@@ -1,6 +1,6 @@
 -- `remove_all` meets its contract: what the facts that are left would remove, and what was removed, is what all of them remove.
-use Prim.Native.Nat.{ℕ, _+_, _-_, _≤_}
-use mathlib.Core.Path.{_≡_, refl, sym, ap, _∙_}
+use Prim.Native.Nat.{ℕ, _-_, _≤_}
+use mathlib.Core.Path.{_≡_, refl, sym, _∙_}
 use mathlib.Core.Bool.{Bool, not, _&&_}
 use mathlib.Core.List.{List}
 use native.Mathlib.Omega.{arith}
@@ -14,8 +14,6 @@ use Rattle.records.specs.Words.{word, words}
 use Rattle.checking.proofs.Changing.{done-one, done-all, remove-idle, remove-twice}
 use Rattle.checking.proofs.stepping.remove_all.Statement.{statement}
 use Rattle.checking.proofs.stepping.remove_all.Tie as tie
-use Rattle.checking.proofs.stepping.remove_all.Reads as reads
-use Rattle.checking.proofs.stepping.remove_all.Lts as lts
 
 record Inv (list state₀ state : List ℕ) (at : ℕ) : Type 0 where
   within : at ≤ length list

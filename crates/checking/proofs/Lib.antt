@@ -6,3 +6,7 @@ pub mod Fine
 pub mod Verdicts
 pub mod Below
 pub mod Refusals
+pub mod Faults
+pub mod Causes
+pub mod Theorems
+pub mod Cases

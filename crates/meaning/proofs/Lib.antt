@@ -3,4 +3,3 @@ pub mod Closing
 pub mod Meeting
 pub mod Running
 pub mod Theorems
-pub mod Cases

@@ -10,7 +10,7 @@ use lib.ListN.{length, take}
 use Rattle.sets.specs.Sets.{Facts, every, listed, _∈_}
 use Rattle.meaning.specs.Model.{Clause, Rule, Model, Trace, ruleOf}
 use Rattle.meaning.specs.Rounds.{rounds, closure, roundNumber, missingHeads}
-use Rattle.meaning.specs.Run.{unmet, after, Outcome, run, named, line}
+use Rattle.meaning.specs.Run.{unmet, after, Outcome, run, named}
 use Rattle.meaning.specs.Published.{HC, Next, Transition, Path, TrueAttack}
 use Rattle.meaning.specs.Promises.{IsRounds, IsRoundNumber, roundsOn, Judged}
 use Rattle.sets.proofs.Laws.{passes, fails, by-test, both, every-in, every-intro, one-number}
@@ -97,14 +97,6 @@ attack-named {m} {t} a =
       lt→ltb (t .goal) (length (m .goals)) (a .met .goal),
       every-intro (λ k. ltb k (length (m .rules))) (t .steps) (λ k i. lt→ltb k (length (m .rules)) (path-rules (a .path) k i)),
     )
-
--- The line's number is 0 exactly if the trace is a true attack.
-pub line-accepted : (m : Model) (t : Trace) → (line m t .number ≡ 0) ↔ TrueAttack m t
-unfolding line
-line-accepted m t =
-    by-test (named m t)
-    (λ e. rw (e, line) (accepted m t (passes e)))
-    (λ e. rw (e, line) (λ z. absurd (omega arith), λ a. absurd (fails e (attack-named a))))
 
 -- The run's rounds are the sum over the states of its path.
 pub sum-of-rounds : (m : Model) (t : Trace) (n : T (named m t)) → run m t .rounds ≡ roundsOn (run-judged m t n .path)

@@ -3,4 +3,3 @@ pub mod Rounds
 pub mod Run
 pub mod Published
 pub mod Promises
-pub mod Cases

@@ -62,20 +62,3 @@ run m t = runFrom m (t .goal) (listed (m .initial)) (t .steps)
 unfoldable pub named : Model → Trace → Bool
 unfolding every
 named m t = ltb (t .goal) (length (m .goals)) && every (λ k. ltb k (length (m .rules))) (t .steps)
-
--- What the program prints of a verdict: number, step, fact, rounds, held.
-pub record Line : Type 0 where
-  pub number : ℕ
-  pub step : ℕ
-  pub fact : ℕ
-  pub rounds : ℕ
-  pub held : ℕ
-
--- The line of a pair that nothing before 9 refuses: 9 (NAME) "all before any step is run", else the run's.
-unfoldable pub line : Model → Trace → Line
-unfolding named run
-line m t =
-    elim (named m t) [
-      | true ↦ let o = run m t in record { number = o .number; step = o .step; fact = o .fact; rounds = o .rounds; held = o .held }
-      | false ↦ record { number = 9; step = 0; fact = 65535; rounds = 0; held = 0 }
-    ]

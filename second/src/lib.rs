@@ -77,7 +77,8 @@ pub fn check(model: &[u8], trace: &[u8], state: &mut [u8], table: &mut [u16]) ->
     }
 }
 
-/// The faulty bytes themselves, as a part of the file the mark names.
+/// The bytes at a place of the file the mark names, as far as the file has them; any other mark
+/// names no file.
 pub fn fault_part<'a>(
     model: &'a [u8],
     trace: &'a [u8],
@@ -85,8 +86,13 @@ pub fn fault_part<'a>(
     start: usize,
     len: usize,
 ) -> &'a [u8] {
-    let file = if mark == MODEL { model } else { trace };
-    &file[start..start + len]
+    let file = match mark {
+        MODEL => model,
+        TRACE => trace,
+        _ => return &[],
+    };
+    let rest = file.get(start..).unwrap_or_default();
+    &rest[..len.min(rest.len())]
 }
 
 /// The program's one line, without the newline.

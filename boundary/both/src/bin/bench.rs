@@ -1,0 +1,289 @@
+//! `bench`: the proved library against the second program, one run, no limits. Each row takes turns with its rival and shows the best
+//! turn of each; a ratio of 2 says that the library takes twice as long.
+//! Closing is called by itself, which judges the model too, so the rival judges and closes as well.
+
+use both::plain;
+use second::gen::{self, write_model, write_trace, Rng};
+use second::{Attack, Clause, Model, Rule};
+use std::hint::black_box;
+use std::process::{Command, Stdio};
+use std::time::Instant;
+
+fn main() {
+    let desk = desk();
+    println!("Closing (judge and close), against bench_close of the second program (clause_place and bench_close)");
+    head();
+    for (name, model) in closings() {
+        closing(name, &model);
+    }
+    closing("desk model", &write_model(&desk));
+    println!("\nJudging a model, against the second program's parser, and against a plain reader in place");
+    head();
+    for (name, model) in judgings() {
+        judging(name, &model);
+    }
+    println!("\nWhole checks, against the second program's check");
+    head();
+    checks(&desk);
+    println!("\nHow the time grows: closing, ns");
+    growth();
+    println!("\nclingo on the same clauses as facts and rules, its start included");
+    for (name, model) in closings() {
+        clingo(name, &model);
+    }
+}
+
+fn head() {
+    println!("{:58} {:>13} {:>13} {:>7}", "", "library, ns", "rival, ns", "ratio");
+}
+
+/// Runs both by turns, and prints the best turn of each. Both must give the same number.
+fn race(name: &str, mut ours: impl FnMut() -> u64, mut theirs: impl FnMut() -> u64) {
+    assert_eq!(ours(), theirs(), "{name}");
+    let once = time(1, &mut ours).max(1.0);
+    let times = (3e6 / once).clamp(1.0, 20_000.0) as u32;
+    let turns = if once > 3e7 { 3 } else { 9 };
+    let (mut a, mut b) = (f64::MAX, f64::MAX);
+    for _ in 0..turns {
+        a = a.min(time(times, &mut ours));
+        b = b.min(time(times, &mut theirs));
+    }
+    println!("{name:58} {a:13.0} {b:13.0} {:7.2}", a / b);
+}
+
+/// Nanoseconds for one call.
+fn time(times: u32, run: &mut impl FnMut() -> u64) -> f64 {
+    let begun = Instant::now();
+    for _ in 0..times {
+        black_box(run());
+    }
+    begun.elapsed().as_nanos() as f64 / times as f64
+}
+
+/// The initial facts as a state.
+fn state(model: &[u8]) -> [u8; 512] {
+    let mut state = [0; 512];
+    for f in second::parse_model(model).expect("a well-formed model").initial {
+        state[f as usize / 8] |= 1 << (f % 8);
+    }
+    state
+}
+
+fn closing(name: &str, model: &[u8]) {
+    let state = state(model);
+    let (mut ours, mut theirs) = ([0; 4_096], [0; 4_096]);
+    let rounds = cantivorex::close(model, &state, &mut ours).expect("closed");
+    race(
+        &format!("{name}, {rounds} rounds"),
+        || cantivorex::close(black_box(model), &state, &mut ours).expect("closed") as u64,
+        || {
+            let at = second::clause_place(black_box(model)).expect("a well-formed model");
+            second::bench_close(model, &at, &state, &mut theirs) as u64
+        },
+    );
+}
+
+fn judging(name: &str, model: &[u8]) {
+    // The trace is refused by NAME, so that nothing is run.
+    let trace = write_trace(u16::MAX, &[]);
+    let (mut state, mut table) = ([0; 512], [0; 4_096]);
+    race(
+        &format!("{name}, by parser"),
+        || cantivorex::check(black_box(model), &trace, &mut state, &mut table).number as u64,
+        || second::parse(black_box(model), &trace).expect_err("refused").number as u64,
+    );
+    race(
+        &format!("{name}, in place"),
+        || cantivorex::check(black_box(model), &trace, &mut state, &mut table).number as u64,
+        || plain::judge(black_box(model)) as u64 + 9,
+    );
+}
+
+fn check(name: &str, pairs: &[(Vec<u8>, Vec<u8>)]) {
+    let (mut s, mut t) = ([0; 512], [0; 4_096]);
+    let (mut s2, mut t2) = ([0; 512], [0; 4_096]);
+    let ours = || {
+        pairs.iter().map(|(m, tr)| cantivorex::check(m, tr, &mut s, &mut t).rounds).sum::<usize>()
+            as u64
+    };
+    let theirs = || {
+        pairs.iter().map(|(m, tr)| second::check(m, tr, &mut s2, &mut t2).rounds).sum::<usize>()
+            as u64
+    };
+    race(name, ours, theirs);
+}
+
+fn checks(desk: &Model) {
+    let desk = write_model(desk);
+    check("desk model, case B", &[(desk.clone(), write_trace(0, &[1, 0]))]);
+    let night: Vec<_> = (0..200).map(|i| gen::sound(11, i)).map(|p| (p.model, p.trace)).collect();
+    check("a night of 200 typical pairs", &night);
+    let full = write_model(&bodies(4_000, 6));
+    for steps in [0, 16, 128, 1_024] {
+        check(
+            &format!("4,000 clauses of 6, {steps} steps"),
+            &[(full.clone(), write_trace(0, &vec![0; steps]))],
+        );
+    }
+    // The same closings without lists: judged once, and closed for each state.
+    let trace = write_trace(0, &[0; 1_024]);
+    let state = state(&full);
+    let (mut s, mut t, mut t2) = ([0; 512], [0; 4_096], [0; 4_096]);
+    race(
+        "the same, 1,024 steps, against 1,025 of bench_close",
+        || cantivorex::check(&full, &trace, &mut s, &mut t).rounds as u64,
+        || {
+            let at = second::clause_place(&full).expect("a well-formed model");
+            (0..1_025)
+                .map(|_| second::bench_close(&full, &at, black_box(&state), &mut t2) as u64)
+                .sum()
+        },
+    );
+}
+
+/// A table of one library call each: rounds, clauses and body facts vary by themselves.
+fn growth() {
+    let line = |what: String, model: Model| {
+        let model = write_model(&model);
+        let state = state(&model);
+        let mut table = [0; 4_096];
+        let rounds = cantivorex::close(&model, &state, &mut table).expect("closed");
+        let mut run =
+            || cantivorex::close(black_box(&model), &state, &mut table).expect("closed") as u64;
+        let times = (1e6 / time(1, &mut run).max(1.0)).clamp(1.0, 10_000.0) as u32;
+        let best = (0..7).map(|_| time(times, &mut run)).fold(f64::MAX, f64::min);
+        println!("{what:58} {rounds:6} rounds {best:13.0}");
+    };
+    for length in [10, 40, 100, 400, 1_000, 4_000] {
+        line(format!("4,000 clauses in chains of {length}, reversed"), chains(4_000, length, true));
+    }
+    for clauses in [500, 1_000, 2_000, 4_000] {
+        line(format!("{clauses} clauses in chains of 10, reversed"), chains(clauses, 10, true));
+    }
+}
+
+// Models.
+
+fn desk() -> Model {
+    let rule = |pos: &[u16], neg: &[u16], add: &[u16]| Rule {
+        pos: pos.into(),
+        neg: neg.into(),
+        add: add.into(),
+    };
+    let clauses = [(2, [0, 1]), (5, [2, 4])].map(|(head, body)| Clause { head, body: body.into() });
+    Model {
+        facts: 6,
+        initial: vec![0, 1, 4],
+        clauses: clauses.into(),
+        rules: vec![rule(&[5], &[3], &[3]), rule(&[0], &[], &[]), rule(&[1], &[], &[1])],
+        attacks: vec![
+            Attack { pos: vec![3, 5], neg: vec![] },
+            Attack { pos: vec![4], neg: vec![0] },
+        ],
+    }
+}
+
+/// One rule and one attack state without conditions.
+fn with(facts: u16, initial: Vec<u16>, clauses: Vec<Clause>) -> Model {
+    Model {
+        facts,
+        initial,
+        clauses,
+        rules: vec![Rule::default()],
+        attacks: vec![Attack::default()],
+    }
+}
+
+/// Chains of a length, all from the one stored fact.
+fn chains(clauses: usize, length: usize, reversed: bool) -> Model {
+    let from = |k: usize| if k % length == 0 { 0 } else { k as u16 };
+    let clause = |k: usize| Clause { head: k as u16 + 1, body: vec![from(k)] };
+    let mut all: Vec<Clause> = (0..clauses).map(clause).collect();
+    if reversed {
+        all.reverse();
+    }
+    with(4_096, vec![0], all)
+}
+
+/// Random clauses of so many body facts, from 40 stored facts and each from earlier facts, as many as fit.
+fn bodies(clauses: usize, size: usize) -> Model {
+    let mut rng = Rng::new(5, size as u64);
+    let mut order: Vec<Clause> = (0..clauses)
+        .map(|k| {
+            let below = (40 + k / 2).min(4_000);
+            let mut body: Vec<u16> = (0..3 * size).map(|_| rng.below(below) as u16).collect();
+            body.sort_unstable();
+            body.dedup();
+            body.truncate(size);
+            Clause { head: (40 + k).min(4_095) as u16, body }
+        })
+        .collect();
+    (1..order.len()).for_each(|i| order.swap(i, rng.below(i + 1)));
+    let mut model = with(4_096, (0..40).collect(), order);
+    while write_model(&model).len() > 65_536 {
+        model.clauses.pop();
+    }
+    model
+}
+
+fn up(from: u16) -> Vec<u16> {
+    (from..from + 32).collect()
+}
+
+/// Rules with three lists of 32 over 200 clauses, a nearly full file.
+fn many_rules() -> Model {
+    let rule = Rule { pos: up(0), neg: up(100), add: up(200) };
+    let clauses = (0..200).map(|k| Clause { head: 1_000 + k, body: vec![k] }).collect();
+    Model { rules: vec![rule; 315], ..with(4_096, vec![0], clauses) }
+}
+
+/// As many clauses as there may be and as many N facts as then fit: every N fact is held against every head.
+fn many_negated() -> Model {
+    let rule = Rule { neg: up(0), ..Rule::default() };
+    let clauses = (0..4_096).map(|k| Clause { head: 32 + k % 4_064, body: vec![] }).collect();
+    Model { rules: vec![rule; 680], ..with(4_096, vec![0], clauses) }
+}
+
+fn closings() -> Vec<(&'static str, Vec<u8>)> {
+    vec![
+        ("chain of 4,000 clauses, file order", write_model(&chains(4_000, 4_000, false))),
+        ("chain of 4,000 clauses, reversed", write_model(&chains(4_000, 4_000, true))),
+        ("random clauses of 6 body facts, full file", write_model(&bodies(4_096, 6))),
+        ("random clauses of 16 body facts, full file", write_model(&bodies(4_096, 16))),
+    ]
+}
+
+fn judgings() -> Vec<(&'static str, Vec<u8>)> {
+    vec![
+        ("full file of clauses of 1", write_model(&bodies(4_096, 1))),
+        ("full file of clauses of 16", write_model(&bodies(4_096, 16))),
+        ("full file of rules of 96 facts", write_model(&many_rules())),
+        ("4,096 heads and 21,760 N facts", write_model(&many_negated())),
+    ]
+}
+
+/// Writes the closing as a logic program and has clingo solve it, if it is there.
+fn clingo(name: &str, model: &[u8]) {
+    let found = Command::new("clingo").arg("--version").stdout(Stdio::null()).status();
+    if !found.is_ok_and(|status| status.success()) {
+        println!("{name}: clingo is not installed, skipped");
+        return;
+    }
+    let model = second::parse_model(model).expect("a well-formed model");
+    let mut text: String = model.initial.iter().map(|f| format!("f{f}.\n")).collect();
+    for Clause { head, body } in &model.clauses {
+        let body: Vec<String> = body.iter().map(|f| format!("f{f}")).collect();
+        let arrow = if body.is_empty() { "" } else { " :- " };
+        text += &format!("f{head}{arrow}{}.\n", body.join(", "));
+    }
+    let path = std::env::temp_dir().join(format!("bench-{}.lp", std::process::id()));
+    std::fs::write(&path, text).expect("a file for clingo");
+    let mut run = || {
+        let done =
+            Command::new("clingo").arg("--quiet=2,2,2").arg(&path).stdout(Stdio::null()).status();
+        done.expect("clingo runs").code().unwrap_or(0) as u64
+    };
+    let best = (0..3).map(|_| time(1, &mut run)).fold(f64::MAX, f64::min);
+    println!("{name:58} {best:13.0}");
+    std::fs::remove_file(path).expect("clingo's file");
+}

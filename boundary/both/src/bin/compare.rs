@@ -1,0 +1,92 @@
+//! `compare SEED COUNT`: random pairs, the proved library against the second program. The last line is 'COUNT passed, 0 failed'.
+
+use second::gen::{self, Pair, Rng};
+use second::NAMES;
+
+fn main() {
+    let numbers: Vec<u64> = std::env::args().skip(1).filter_map(|arg| arg.parse().ok()).collect();
+    let [seed, count] = numbers[..] else {
+        eprintln!("usage: compare SEED COUNT");
+        std::process::exit(2);
+    };
+    let mut tally = [0; 12];
+    for index in 0..count {
+        let pair = gen::pair(seed, index);
+        match compare(&pair, seed, index) {
+            Ok(number) => tally[number as usize] += 1,
+            Err(difference) => {
+                println!("pair {index} of seed {seed}: {difference}");
+                answers(&pair, seed, index);
+                hex_file("case.model", &pair.model);
+                hex_file("case.trace", &pair.trace);
+                println!("{index} passed, 1 failed");
+                std::process::exit(1);
+            }
+        }
+    }
+    let rare = shares(&tally, count);
+    // A few pairs say nothing of the shares.
+    if rare && count >= 10_000 {
+        println!("a verdict comes up too seldom: the pairs do not try it");
+        std::process::exit(1);
+    }
+    println!("{count} passed, 0 failed");
+}
+
+/// One pair: a check with and without room for the verdict, closing by itself, and three places.
+fn compare(pair: &Pair, seed: u64, index: u64) -> Result<u8, String> {
+    let Pair { model, trace, state_len, .. } = pair;
+    let mut rng = Rng::new(seed ^ 0xC0FFEE, index);
+    let (mut state, mut table) = pair.buffers(seed, index);
+    both::check_short(model, trace, &state, &table, rng.below(8))?;
+    let mut start = gen::start_state(seed, index, facts(model));
+    // Where the pair is to have too short a state, so is this one.
+    start.truncate(if *state_len < 512 { *state_len } else { start.len() });
+    let _ = both::close(model, &start, &mut table.clone())?;
+    let verdict = both::check(model, trace, &mut state, &mut table)?;
+    for _ in 0..3 {
+        let mark = [0, 0, 1, 1, 2, rng.draw() as u8][rng.below(6)];
+        let file = if mark == 1 { trace } else { model };
+        let (start, size) = (somewhere(&mut rng, file.len()), somewhere(&mut rng, file.len()));
+        let room = rng.below(2 + file.len());
+        both::part(model, trace, mark, start, size, room)?;
+    }
+    Ok(verdict.number)
+}
+
+/// F as the file has it, at most 4,096; a starting state is made for so many facts.
+fn facts(model: &[u8]) -> usize {
+    model.get(5..7).map_or(6, |two| u16::from_be_bytes([two[0], two[1]]).min(4_096) as usize)
+}
+
+/// A place in a file, at its end, or far beyond.
+fn somewhere(rng: &mut Rng, len: usize) -> usize {
+    let near = len + rng.below(3);
+    [rng.below(len + 1), rng.below(len + 1), near, usize::MAX - rng.below(2)][rng.below(4)]
+}
+
+/// Prints how often each verdict came up; answers whether one that must is under 1 in 200.
+fn shares(tally: &[u64; 12], count: u64) -> bool {
+    for (number, times) in tally.iter().enumerate() {
+        let share = 100.0 * *times as f64 / count as f64;
+        println!("{number:2} {:9} {times:9} {share:6.2}%", NAMES[number]);
+    }
+    // ROOM says nothing of the files.
+    (0..12).any(|number| number != 1 && tally[number] * 200 < count)
+}
+
+/// Both verdicts, for a look at a pair that differs.
+fn answers(pair: &Pair, seed: u64, index: u64) {
+    let Pair { model, trace, .. } = pair;
+    let (mut state, mut table) = pair.buffers(seed, index);
+    println!("library {:?}", cantivorex::check(model, trace, &mut state, &mut table));
+    let (mut state, mut table) = pair.buffers(seed, index);
+    println!("second  {:?}", second::check(model, trace, &mut state, &mut table));
+}
+
+fn hex_file(name: &str, bytes: &[u8]) {
+    println!("{name}, {} bytes:", bytes.len());
+    for line in bytes.chunks(32) {
+        println!("{}", line.iter().map(|byte| format!("{byte:02x}")).collect::<String>());
+    }
+}

@@ -1,0 +1,125 @@
+//! The proved library beside the independent second program: each call is made of both, and all that they answer and leave is compared.
+
+pub mod plain;
+
+use second::Verdict;
+use std::fmt::Debug;
+
+/// Entries on both sides of a lent area; a write outside the area shows there.
+const GUARD: usize = 64;
+
+fn guarded<T: Copy>(inside: &[T], guard: T) -> Vec<T> {
+    let around = [guard; GUARD];
+    [&around, inside, &around].concat()
+}
+
+fn inside<T>(area: &mut [T]) -> &mut [T] {
+    let end = area.len() - GUARD;
+    &mut area[GUARD..end]
+}
+
+fn same<T: PartialEq + Debug>(what: &str, ours: T, theirs: T) -> Result<(), String> {
+    if ours == theirs {
+        return Ok(());
+    }
+    Err(format!("{what}: the library has {ours:?}, the second program {theirs:?}"))
+}
+
+/// Two areas with their guards; the first place where they differ is named from the area's start.
+fn same_area<T: PartialEq + Debug>(what: &str, ours: &[T], theirs: &[T]) -> Result<(), String> {
+    match ours.iter().zip(theirs).position(|(a, b)| a != b) {
+        Some(at) => {
+            let place = at as isize - GUARD as isize;
+            same(&format!("{what} at {place}"), &ours[at], &theirs[at])
+        }
+        None => same(what, ours.len(), theirs.len()),
+    }
+}
+
+fn values(v: &Verdict) -> [u64; 8] {
+    let Verdict { number, step, fact, rounds, held, mark, start, len } = *v;
+    let [step, rounds, held, start, len] = [step, rounds, held, start, len].map(|n| n as u64);
+    [number as u64, step, fact as u64, rounds, held, mark as u64, start, len]
+}
+
+/// A verdict of both, or what differs. The buffers are left as both leave them.
+pub fn check(
+    model: &[u8],
+    trace: &[u8],
+    state: &mut [u8],
+    table: &mut [u16],
+) -> Result<Verdict, String> {
+    let (mut our_state, mut our_table) = (guarded(state, 0xC3), guarded(table, 0xC3C3));
+    let (mut state_2, mut table_2) = (our_state.clone(), our_table.clone());
+    let mut our_out = guarded(&[7; 9], 9);
+    let mut out_2 = our_out.clone();
+    let (s, t, o) = (inside(&mut our_state), inside(&mut our_table), inside(&mut our_out));
+    let number = cantivorex::check_into(model, trace, s, t, o);
+    let verdict = second::check(model, trace, inside(&mut state_2), inside(&mut table_2));
+    inside(&mut out_2)[..8].copy_from_slice(&values(&verdict));
+    same("the number", number, verdict.number)?;
+    same_area("the verdict's values", &our_out, &out_2)?;
+    same_area("the state", &our_state, &state_2)?;
+    same_area("the table", &our_table, &table_2)?;
+    part(model, trace, verdict.mark, verdict.start, verdict.len, verdict.len)?;
+    state.copy_from_slice(inside(&mut our_state));
+    table.copy_from_slice(inside(&mut our_table));
+    Ok(verdict)
+}
+
+/// A check without room for its verdict: 1, and nothing is changed.
+pub fn check_short(
+    model: &[u8],
+    trace: &[u8],
+    state: &[u8],
+    table: &[u16],
+    entries: usize,
+) -> Result<(), String> {
+    let (mut our_state, mut our_table) = (guarded(state, 0xC3), guarded(table, 0xC3C3));
+    let mut out = vec![7; entries];
+    let (s, t) = (inside(&mut our_state), inside(&mut our_table));
+    same("a short out", cantivorex::check_into(model, trace, s, t, &mut out), 1)?;
+    same_area("the state under a short out", &our_state, &guarded(state, 0xC3))?;
+    same_area("the table under a short out", &our_table, &guarded(table, 0xC3C3))?;
+    same("a short out's entries", out, vec![7; entries])
+}
+
+/// Closing by itself of both, or what differs.
+pub fn close(model: &[u8], state: &[u8], table: &mut [u16]) -> Result<Result<usize, u8>, String> {
+    let mut our_table = guarded(table, 0xC3C3);
+    let mut table_2 = our_table.clone();
+    same("no out", cantivorex::close_into(model, state, inside(&mut our_table), &mut []), 1)?;
+    same_area("the table without out", &our_table, &table_2)?;
+    let mut out = guarded(&[7; 2], 9);
+    let number = cantivorex::close_into(model, state, inside(&mut our_table), inside(&mut out));
+    let answer = second::close_api(model, state, inside(&mut table_2));
+    let mut out_2 = guarded(&[7; 2], 9);
+    if let Ok(rounds) = answer {
+        inside(&mut out_2)[0] = rounds as u64;
+    }
+    same("closing's number", number, answer.err().unwrap_or(0))?;
+    same_area("closing's rounds", &out, &out_2)?;
+    same_area("closing's table", &our_table, &table_2)?;
+    table.copy_from_slice(inside(&mut our_table));
+    Ok(answer)
+}
+
+/// The part at a place, into an area of so much room.
+pub fn part(
+    model: &[u8],
+    trace: &[u8],
+    mark: u8,
+    start: usize,
+    size: usize,
+    room: usize,
+) -> Result<(), String> {
+    let mut ours = guarded(&vec![0x3C; room], 0xC3);
+    let mut theirs = ours.clone();
+    let len = cantivorex::part(model, trace, mark, start, size, inside(&mut ours));
+    let bytes = second::fault_part(model, trace, mark, start, size);
+    let copied = bytes.len().min(room);
+    inside(&mut theirs)[..copied].copy_from_slice(&bytes[..copied]);
+    let what = format!("the part of {size} at {start} of {mark}");
+    same(&what, len, bytes.len())?;
+    same_area(&what, &ours, &theirs)
+}

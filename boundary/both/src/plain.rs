@@ -1,0 +1,151 @@
+//! A plain Rust reader of a model in place, to measure against: the number of 2 to 8, or 0, without lists and without places.
+
+/// The least fault number so far; 0 is none.
+fn worse(a: u8, b: u8) -> u8 {
+    match (a, b) {
+        (0, n) | (n, 0) => n,
+        _ => a.min(b),
+    }
+}
+
+fn word(bytes: &[u8]) -> usize {
+    u16::from_be_bytes([bytes[0], bytes[1]]) as usize
+}
+
+/// Takes the next section off the rest of the file.
+fn section<'a>(rest: &mut &'a [u8]) -> Option<&'a [u8]> {
+    let (len, after) = rest.split_at_checked(4)?;
+    let len = u32::from_be_bytes([len[0], len[1], len[2], len[3]]) as usize;
+    let (bytes, after) = after.split_at_checked(len)?;
+    *rest = after;
+    Some(bytes)
+}
+
+/// Takes the next record off the rest of its section.
+fn record<'a>(rest: &mut &'a [u8]) -> Option<&'a [u8]> {
+    let (len, after) = rest.split_at_checked(2)?;
+    let (bytes, after) = after.split_at_checked(word(len))?;
+    *rest = after;
+    Some(bytes)
+}
+
+/// 6 and 7 of a list of facts.
+fn list_fault(list: &[u8], facts: usize) -> u8 {
+    let (mut fault, mut least) = (0, 0);
+    for fact in list.chunks_exact(2).map(word) {
+        if fact >= facts {
+            return 6;
+        }
+        if fact < least {
+            fault = 7;
+        }
+        least = fact + 1;
+    }
+    fault
+}
+
+fn clause_fault(clause: &[u8], facts: usize) -> u8 {
+    if clause.len() < 2 || clause.len() % 2 == 1 {
+        return 4;
+    }
+    if clause.len() > 2 + 2 * 16 {
+        return 5;
+    }
+    let head = if word(clause) < facts { 0 } else { 6 };
+    worse(head, list_fault(&clause[2..], facts))
+}
+
+/// 4 to 7 of a record of lists. The second list is its N, of which `negated` says whether a head stands in it.
+fn lists_fault(
+    record: &[u8],
+    count: usize,
+    facts: usize,
+    negated: &mut bool,
+    heads: &[u64; 64],
+) -> u8 {
+    let (mut rest, mut fault) = (record, 0);
+    for index in 0..count {
+        let Some((len, after)) = rest.split_at_checked(2) else { return 4 };
+        let Some((list, after)) = after.split_at_checked(2 * word(len)) else { return 4 };
+        rest = after;
+        fault = worse(fault, if word(len) > 32 { 5 } else { 0 });
+        fault = worse(fault, list_fault(list, facts));
+        if index == 1 {
+            let head = |f: usize| heads[f / 64 % 64] >> (f % 64) & 1 == 1;
+            *negated |= list.chunks_exact(2).map(word).any(head);
+        }
+    }
+    if rest.is_empty() {
+        fault
+    } else {
+        4
+    }
+}
+
+fn records(section: &[u8], most: usize, mut fault_of: impl FnMut(&[u8]) -> u8) -> u8 {
+    let (mut rest, mut index) = (section, 0);
+    while !rest.is_empty() {
+        let Some(record) = record(&mut rest) else { return 4 };
+        let fault = worse(fault_of(record), if index < most { 0 } else { 5 });
+        if fault != 0 {
+            return fault;
+        }
+        index += 1;
+    }
+    0
+}
+
+/// The number of the first fault of a model, or 0.
+pub fn judge(model: &[u8]) -> u8 {
+    if model.len() > 65_536 {
+        return 2;
+    }
+    if model.first() != Some(&1) {
+        return 3;
+    }
+    judge_sections(&model[1..]).unwrap_or_else(|number| number)
+}
+
+fn none(number: u8) -> Result<(), u8> {
+    if number == 0 {
+        Ok(())
+    } else {
+        Err(number)
+    }
+}
+
+fn judge_sections(mut rest: &[u8]) -> Result<u8, u8> {
+    let sizes = section(&mut rest).ok_or(4)?;
+    none(if sizes.len() == 2 { 0 } else { 4 })?;
+    let facts = word(sizes);
+    none(if facts > 4_096 { 5 } else { 0 })?;
+    let initial = section(&mut rest).ok_or(4)?;
+    none(if initial.len() % 2 == 1 { 4 } else { list_fault(initial, facts) })?;
+    let mut heads = [0u64; 64];
+    none(records(section(&mut rest).ok_or(4)?, 4_096, |clause| {
+        let fault = clause_fault(clause, facts);
+        if fault == 0 {
+            heads[word(clause) / 64] |= 1 << (word(clause) % 64);
+        }
+        fault
+    }))?;
+    let mut negated = false;
+    let rules = section(&mut rest).ok_or(4)?;
+    none(records(rules, 2_048, |r| lists_fault(r, 3, facts, &mut negated, &heads)))?;
+    let goals = section(&mut rest).ok_or(4)?;
+    none(records(goals, 64, |r| lists_fault(r, 2, facts, &mut negated, &heads)))?;
+    none(if rest.is_empty() { 0 } else { 4 })?;
+    Ok(if negated { 8 } else { 0 })
+}
+
+#[cfg(test)]
+mod tests {
+    #[test]
+    fn it_judges_as_the_second_program_does() {
+        for index in 0..50_000 {
+            let model = second::gen::pair(3, index).model;
+            let number = second::parse_model(&model).err().map_or(0, |fault| fault.number);
+            assert_eq!(super::judge(&model), number, "pair {index}");
+        }
+    }
+}

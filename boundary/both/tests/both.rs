@@ -1,0 +1,20 @@
+//! The second program's own tests, run through both programs: cases A to L, the edges, every fault and every two faults together.
+//! Those tests say `second`; here that is this file, whose `check` and `close_api` make each call of both and compare.
+
+extern crate second as other;
+extern crate self as second;
+
+#[path = "../../../second/tests/cases.rs"]
+mod cases;
+#[path = "../../../second/tests/faults.rs"]
+mod faults;
+
+pub use other::*;
+
+pub fn check(model: &[u8], trace: &[u8], state: &mut [u8], table: &mut [u16]) -> Verdict {
+    both::check(model, trace, state, table).unwrap_or_else(|difference| panic!("{difference}"))
+}
+
+pub fn close_api(model: &[u8], state: &[u8], table: &mut [u16]) -> Result<usize, u8> {
+    both::close(model, state, table).unwrap_or_else(|difference| panic!("{difference}"))
+}

@@ -1,0 +1,26 @@
+/* Checks a model and a trace and prints the verdict's numbers. */
+#include "../include/cantivorex.h"
+#include <stdio.h>
+
+static size_t load(const char *path, uint8_t *bytes, size_t room)
+{
+    FILE *file = fopen(path, "rb");
+    size_t len = file ? fread(bytes, 1, room, file) : 0;
+    if (file)
+        fclose(file);
+    return len;
+}
+
+int main(int argc, char **argv)
+{
+    static uint8_t model[65537], trace[4097], state[512];
+    static uint16_t table[4096];
+    uint64_t out[8];
+    if (argc != 3)
+        return 2;
+    size_t models = load(argv[1], model, sizeof model), traces = load(argv[2], trace, sizeof trace);
+    cantivorex_safe_check(model, models, trace, traces, state, sizeof state, table, 4096, out, 8);
+    for (int i = 0; i < 8; i++)
+        printf("%llu%c", (unsigned long long)out[i], i < 7 ? ' ' : '\n');
+    return 0;
+}

@@ -1,0 +1,78 @@
+-- What each exported function promises follows from what it calls.
+use Prim.Native.Nat.{ℕ, _≤_, _<_}
+use mathlib.Core.Path.{_≡_, refl, sym, ap, _∙_}
+use mathlib.Core.List.{List, [], _∷_}
+use mathlib.Core.Option.{Option, none, some}
+use native.Mathlib.Omega.{arith}
+use borrow.Author.Tests.{lt-ltb, le-ltb}
+use lib.ListN.{length, set}
+use Rattle.closing.specs.Closing as closing
+use Rattle.closing.specs.declared.Closed.{Closed}
+use Rattle.checking.specs.Verdict.{Checked}
+use Rattle.checking.specs.declared.Verdict.{Verdict}
+use Rattle.exports.specs.Exports.{shorter, over, values, verdict, Checks, numberOf, roundsOut, Rounds, Closes}
+use Rattle.exports.proofs.Fronts.{stored}
+
+-- ---- the verdict
+
+-- without room for it
+pub no-verdict : (m t state table out : List ℕ) → length out < 8 → Checks (shorter out 8) m t state state table table out out 1
+unfolding shorter Checks
+no-verdict m t state table out short = rw (lt-ltb _ _ short) (refl, refl, refl, refl)
+
+-- with room, its values are written
+pub some-verdict : (m t state state' table table' out out' : List ℕ) (v : Verdict) → 8 ≤ length out → Checked m t state state' table table' v
+    → out' ≡ over (values v) out → Checks (shorter out 8) m t state state' table table' out out' (v .number)
+unfolding shorter Checks verdict
+some-verdict m t state state' table table' out out' v room checked written =
+    rw (le-ltb _ _ room)
+    (record {
+      number = ap (λ (w : Verdict). w .number) (checked .verdict);
+      values = written ∙ ap (λ (w : Verdict). over (values w) out) (checked .verdict);
+      buffers = checked .buffers;
+    })
+
+-- ---- closing
+
+-- rounds are answered where nothing is refused
+rounds-fine : (o : Option ℕ) (k n : ℕ) → Closed.Rounds n ≡ closing.answer o k → (o ≡ none) × (n ≡ k)
+unfolding closing.answer
+rounds-fine none k n e = (refl, cc)
+rounds-fine (some j) k n e = let z : _≡_ {A = ℕ} 0 1 = cc in absurd (omega arith)
+
+-- a refusal is answered by its number
+refused-some : (o : Option ℕ) (k n : ℕ) → Closed.Refused n ≡ closing.answer o k → o ≡ some n
+unfolding closing.answer
+refused-some none k n e = let z : _≡_ {A = ℕ} 0 1 = cc in absurd (omega arith)
+refused-some (some j) k n e = cc
+
+module _ (m state table : List ℕ) where
+  -- without room for the rounds
+  pub no-rounds : (out : List ℕ) → length out < 1 → Closes (shorter out 1) m state table table out out 1
+  unfolding shorter Closes
+  no-rounds out short = rw (lt-ltb _ _ short) (refl, refl, refl)
+
+  module _ (table' out : List ℕ) (r : Closed) (n : ℕ) (room : 1 ≤ length out) (closed : closing.Closes m state table table' r) where
+    -- the rounds are written
+    pub some-rounds : r ≡ Closed.Rounds n → Closes (shorter out 1) m state table table' out (set out 0 n) 0
+    unfolding shorter Closes numberOf roundsOut
+    some-rounds told =
+        let (fine, same) = rounds-fine _ _ _ (sym told ∙ closed .answers) in
+        rw (le-ltb _ _ room)
+        (record {
+          number = rw fine;
+          rounds = rw (fine, ← same) (stored (n ∷ []) out room);
+          entries = closed .table;
+        })
+
+    -- a refusal writes nothing
+    pub refused : r ≡ Closed.Refused n → Closes (shorter out 1) m state table table' out out n
+    unfolding shorter Closes numberOf roundsOut
+    refused told =
+        let number = refused-some _ _ _ (sym told ∙ closed .answers) in
+        rw (le-ltb _ _ room)
+        (record {
+          number = rw number;
+          rounds = rw number;
+          entries = closed .table;
+        })

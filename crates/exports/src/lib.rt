@@ -1,0 +1,98 @@
+// The library for C and Rust: three functions on numbers and slices, with no requires, so that no caller can break one.
+// include/cantivorex.h declares them for C.
+ghost use Prim.Native.Nat.{_≤_};
+ghost use mathlib.Core.Path.{_≡_};
+ghost use lib.ListN.{length};
+ghost use Rattle.exports.specs.Exports.{Checks, Closes, Parts, shorter, values, over};
+ghost use Rattle.files.specs.Answers.{partOf};
+use checking::Verdict;
+use closing::Closed;
+
+// Writes a verdict's eight values to the front.
+fn put(v: Verdict, out: &mut [u64])
+    requires { ⌜ 8 ≤ length (now out) ⌝ }
+    ensures { λ _. ⌜ now (out .exit) ≡ over (values v) (now (out .entry)) ⌝ }
+{
+    out[0] = v.number as u64;
+    out[1] = v.step as u64;
+    out[2] = v.fact as u64;
+    out[3] = v.rounds as u64;
+    out[4] = v.held as u64;
+    out[5] = v.mark as u64;
+    out[6] = v.start as u64;
+    out[7] = v.size as u64;
+}
+
+// The verdict on a model and a trace: its number, and its eight values at the front of `out`. Without room for them the answer
+// is 1 and nothing is changed.
+#[no_mangle]
+pub extern "C" fn cantivorex_check(
+    model: &[u8],
+    trace: &[u8],
+    state: &mut [u8],
+    table: &mut [u16],
+    out: &mut [u64],
+) -> u8
+    ensures { λ r. ⌜ Checks (shorter (now (out .entry)) 8) (now (model .entry)) (now (trace .entry)) (now (state .entry)) (now (state .exit))
+        (now (table .entry)) (now (table .exit)) (now (out .entry)) (now (out .exit)) r ⌝ }
+{
+    if out.len() < 8 {
+        return 1;
+    }
+    let v = checking::check(model, trace, state, table);
+    put(v, out);
+    v.number
+}
+
+// Closing by itself: 0, with the number of rounds in the first entry of `out`, or a refusal's number, with nothing changed. Without
+// room for the rounds the answer is 1.
+#[no_mangle]
+pub extern "C" fn cantivorex_close(
+    model: &[u8],
+    state: &[u8],
+    table: &mut [u16],
+    out: &mut [u64],
+) -> u8
+    ensures { λ r. ⌜ Closes (shorter (now (out .entry)) 1) (now (model .entry)) (now (state .entry)) (now (table .entry)) (now (table .exit))
+        (now (out .entry)) (now (out .exit)) r ⌝ }
+{
+    if out.len() < 1 {
+        return 1;
+    }
+    match closing::close(model, state, table) {
+        Closed::Rounds(n) => {
+            out[0] = n as u64;
+            0
+        }
+        Closed::Refused(number) => number,
+    }
+}
+
+// Copies bytes to the front, as far as there is room.
+fn copy(bytes: &[u8], out: &mut [u8])
+    ensures { λ _. ⌜ now (out .exit) ≡ over (now (bytes .entry)) (now (out .entry)) ⌝ }
+{
+    let mut i = 0;
+    while i < bytes.len() && i < out.len() {
+        out[i] = bytes[i];
+        i += 1;
+    }
+}
+
+// The bytes at a place of the file marked, as far as the file has them: their number, and they at the front of `out` as far as
+// it has room.
+#[no_mangle]
+pub extern "C" fn cantivorex_part<'a>(
+    model: &'a [u8],
+    trace: &'a [u8],
+    mark: u8,
+    start: usize,
+    size: usize,
+    out: &mut [u8],
+) -> usize
+    ensures { λ r. ⌜ Parts (partOf (now (model .entry)) (now (trace .entry)) mark start size) (now (out .entry)) (now (out .exit)) r ⌝ }
+{
+    let bytes = files::both::part(model, trace, mark, start, size);
+    copy(bytes, out);
+    bytes.len()
+}

@@ -1,0 +1,110 @@
+/* The trace checker for C. Link with libexports.a (`rt staticlib exports` writes it to target/staticlib).
+ *
+ * Everything is lent: the library keeps no pointer, frees nothing and allocates nothing, and each call stands by itself, so that
+ * calls on different buffers may run at the same time. A file is any bytes at all; nothing in one can make a call crash or loop.
+ * What a call may write (state, table, out) must overlap no other area of the same call.
+ *
+ * The functions at the bottom, `cantivorex_safe_..`, are the ones to call: they take a null pointer as an area of length 0. The
+ * three above them are what the library has, each area as a pointer that is not null and a length.
+ */
+#ifndef CANTIVOREX_H
+#define CANTIVOREX_H
+
+#include <stddef.h>
+#include <stdint.h>
+
+#ifdef __cplusplus
+extern "C" {
+#endif
+
+/* The verdict's numbers. */
+enum {
+    CANTIVOREX_ATTACK = 0,   /* accepted */
+    CANTIVOREX_ROOM = 1,     /* a buffer is too short; nothing is changed */
+    CANTIVOREX_LONG = 2,     /* a file is over its size: 65,536 bytes for a model, 4,096 for a trace */
+    CANTIVOREX_VERSION = 3,  /* a file is empty, or its first byte is not 1 */
+    CANTIVOREX_SHAPE = 4,    /* a length or count does not fit, something is too short, bytes are left over */
+    CANTIVOREX_COUNT = 5,    /* a bound is passed */
+    CANTIVOREX_FACT = 6,     /* a fact number of F or more */
+    CANTIVOREX_ORDER = 7,    /* a list is not strictly ascending */
+    CANTIVOREX_NEGATED = 8,  /* a clause's head stands in an N */
+    CANTIVOREX_NAME = 9,     /* the trace names an attack state or a rule that the model lacks */
+    CANTIVOREX_BLOCKED = 10, /* a step's rule cannot fire */
+    CANTIVOREX_NOATTACK = 11 /* all steps fire, and the goal is not met */
+};
+
+/* What each call needs at least. */
+enum {
+    CANTIVOREX_STATE_BYTES = 512,
+    CANTIVOREX_TABLE_ENTRIES = 4096,
+    CANTIVOREX_OUT_ENTRIES = 8
+};
+
+/* Where a verdict's values stand in `out`. */
+enum {
+    CANTIVOREX_OUT_NUMBER = 0,
+    CANTIVOREX_OUT_STEP = 1,   /* the blocked step; for 0 and 11 the count of steps */
+    CANTIVOREX_OUT_FACT = 2,   /* the first unmet condition, or CANTIVOREX_NONE */
+    CANTIVOREX_OUT_ROUNDS = 3, /* the rounds of all states reached */
+    CANTIVOREX_OUT_HELD = 4,   /* the facts in the last state reached */
+    CANTIVOREX_OUT_MARK = 5,   /* whose bytes are at fault: 0 the model's, 1 the trace's */
+    CANTIVOREX_OUT_START = 6,  /* where they start */
+    CANTIVOREX_OUT_SIZE = 7    /* how many they are */
+};
+
+/* No fact in a verdict, no round in a table. */
+#define CANTIVOREX_NONE 65535
+
+/* The verdict on a model and a trace: answers its number and writes its eight values to the front of `out`.
+ * For 1 to 9 state and table stay as they were. For 0, 10 and 11 the first 512 bytes of `state` hold the last state reached (fact
+ * f is the bit of value 2^(f mod 8) in byte f/8) and the first 4,096 entries of `table` its round numbers. What lies beyond stays.
+ * With an `out` of fewer than 8 entries the answer is 1 and nothing at all is changed. */
+uint8_t cantivorex_check(const uint8_t *model, size_t model_len, const uint8_t *trace, size_t trace_len, uint8_t *state,
+    size_t state_len, uint16_t *table, size_t table_len, uint64_t *out, size_t out_len);
+
+/* Closing by itself, from the state lent: answers 0 and writes the number of rounds to out[0] and the round numbers to the first
+ * 4,096 entries of `table`. Otherwise it answers 1 to 8 for what it is lent, or 6 for a state with a fact of F or more, and changes
+ * nothing. With an `out` of no entries the answer is 1. */
+uint8_t cantivorex_close(const uint8_t *model, size_t model_len, const uint8_t *state, size_t state_len, uint16_t *table,
+    size_t table_len, uint64_t *out, size_t out_len);
+
+/* The bytes at a place of the file marked (0 the model, 1 the trace), as far as the file has them; for any other mark none.
+ * Answers how many they are, and copies them to the front of `out` as far as it has room. Every mark, start and size is fine. */
+size_t cantivorex_part(const uint8_t *model, size_t model_len, const uint8_t *trace, size_t trace_len, uint8_t mark,
+    size_t start, size_t size, uint8_t *out, size_t out_len);
+
+/* The same three, with a null pointer as an area of length 0: a null file is an empty one (VERSION), a null buffer one without
+ * room (ROOM). */
+static inline uint8_t cantivorex_safe_check(const uint8_t *model, size_t model_len, const uint8_t *trace, size_t trace_len,
+    uint8_t *state, size_t state_len, uint16_t *table, size_t table_len, uint64_t *out, size_t out_len)
+{
+    uint64_t nothing = 0; /* an address for an area of length 0, which is never read or written */
+    return cantivorex_check(model ? model : (const uint8_t *)&nothing, model ? model_len : 0,
+        trace ? trace : (const uint8_t *)&nothing, trace ? trace_len : 0, state ? state : (uint8_t *)&nothing,
+        state ? state_len : 0, table ? table : (uint16_t *)&nothing, table ? table_len : 0, out ? out : &nothing,
+        out ? out_len : 0);
+}
+
+static inline uint8_t cantivorex_safe_close(const uint8_t *model, size_t model_len, const uint8_t *state, size_t state_len,
+    uint16_t *table, size_t table_len, uint64_t *out, size_t out_len)
+{
+    uint64_t nothing = 0;
+    return cantivorex_close(model ? model : (const uint8_t *)&nothing, model ? model_len : 0,
+        state ? state : (const uint8_t *)&nothing, state ? state_len : 0, table ? table : (uint16_t *)&nothing,
+        table ? table_len : 0, out ? out : &nothing, out ? out_len : 0);
+}
+
+static inline size_t cantivorex_safe_part(const uint8_t *model, size_t model_len, const uint8_t *trace, size_t trace_len,
+    uint8_t mark, size_t start, size_t size, uint8_t *out, size_t out_len)
+{
+    uint64_t nothing = 0;
+    return cantivorex_part(model ? model : (const uint8_t *)&nothing, model ? model_len : 0,
+        trace ? trace : (const uint8_t *)&nothing, trace ? trace_len : 0, mark, start, size, out ? out : (uint8_t *)&nothing,
+        out ? out_len : 0);
+}
+
+#ifdef __cplusplus
+}
+#endif
+
+#endif

@@ -33,7 +33,8 @@ use Rattle.checking.proofs.Causes.{ran-shows, blamed-number, ended-numb
 -- ---- one verdict
 
 module _ (m t state table : List ℕ) {s₁ s₂ t₁ t₂ : List ℕ} (b₁ : Bytes s₁) (b₂ : Bytes s₂) where
-  buffers-unique : (r : Option Verdict) → Buffers m t r state s₁ table t₁ → Buffers m t r state s₂ table t₂ → (s₁ ≡ s₂) × (t₁ ≡ t₂)
+  -- Whatever the refusal, it leaves one state and one table.
+  pub buffers-unique : (r : Option Verdict) → Buffers m t r state s₁ table t₁ → Buffers m t r state s₂ table t₂ → (s₁ ≡ s₂) × (t₁ ≡ t₂)
   unfolding Buffers
   buffers-unique none x y = (determined b₁ b₂ (x .kept) (y .kept) (λ g. x .facts g ∙ sym (y .facts g)), filled-unique (x .rounds) (y .rounds))
   buffers-unique (some v) x y = (x .0 ∙ sym (y .0), x .1 ∙ sym (y .1))

@@ -4,13 +4,14 @@ use mathlib.Core.Path.{_≡_, refl, sym, ap, _∙_, subst}
 use mathlib.Core.Logic.{⊎-elim}
 use mathlib.Core.Bool.{Bool, true, false, true≢false, _&&_}
 use mathlib.Core.List.{List}
-use mathlib.Core.Option.{none, some}
+use mathlib.Core.Option.{Option, none, some}
 use native.Mathlib.Nat.{lt-of-le-of-lt}
 use native.Mathlib.Omega.{arith}
 use borrow.Author.Tests.{lt-ltb, le-ltb, le-leb, leb-true}
 use lib.Dec.{T, leb}
-use Rattle.sets.specs.Sets.{first}
+use Rattle.sets.specs.Sets.{Facts, first}
 use Rattle.sets.proofs.Laws.{is-true, passes, both, first-hit, first-before}
+use Rattle.meaning.specs.Model.{Clause}
 use Rattle.meaning.specs.Rounds.{rounds}
 use Rattle.facts.specs.Facts.{members, AnyFrom}
 use Rattle.facts.proofs.Laws.{below-or-from, beyond}
@@ -20,6 +21,7 @@ use Rattle.files.proofs.Shaped.{neither}
 use Rattle.files.proofs.Laws.{facts-bound, clauses-bound, clause-below}
 use Rattle.closing.specs.Closing.{Filled, Bounded, noRoom, someFrom, refusal, answer, Table, Closes, ClosesFine}
 use Rattle.closing.specs.declared.Closed.{Closed}
+use Rattle.closing.proofs.Laws.{filled-unique}
 
 -- ---- a bit from F on
 
@@ -95,3 +97,16 @@ module _ (m state before : List ℕ) where
   pub model-fine : (after : List ℕ) (r : Closed) → noRoom state before ≡ false → modelFault m ≡ none → ClosesFine m state before after r → Closes m state before after r
   unfolding given _orElse_ refusal
   model-fine after r e h c = record { answers = rw (e, h) (c .answers); table = rw (e, h) (c .table) }
+
+-- ---- one answer
+
+-- A refusal changes nothing, and a filled table is one table.
+pub table-unique : (refused : Option ℕ) (cs : List Clause) (S : Facts) (before a b : List ℕ) → Table refused cs S before a → Table refused cs S before b → a ≡ b
+unfolding Table
+table-unique none cs S before a b x y = filled-unique x y
+table-unique (some k) cs S before a b x y = x ∙ sym y
+
+-- Two results of closing that meet its promise for the same model, state and table are equal, the answer and every entry.
+pub closes-unique : {model state before a b : List ℕ} {r s : Closed} → Closes model state before a r → Closes model state before b s → (r ≡ s) × (a ≡ b)
+closes-unique {model} {state} {before} {a} {b} x y =
+    (x .answers ∙ sym (y .answers), table-unique (refusal model state before) (modelOf model .clauses) (members state) before a b (x .table) (y .table))

@@ -246,6 +246,10 @@ fn has_head(list: &[u8], clauses: &[u8]) -> bool
     requires { ⌜ AllCut Kind.Clause (now clauses) ⌝ }
     ensures { λ r. ⌜ r ≡ any (headIn (now (clauses .entry))) (words (now (list .entry))) ⌝ }
 {
+    // Most lists are empty, and then no clause has to be looked at.
+    if list.len() < 2 {
+        return false;
+    }
     let mut at = 0;
     while at < clauses.len() {
         let record = record_at(clauses, at);

@@ -9,6 +9,7 @@ use Rattle.sets.specs.Sets.{any, listed}
 use Rattle.records.specs.Words.{word, words}
 use Rattle.records.specs.Answers.{headIn, AllCut}
 use Rattle.records.specs.declared.Kind.{Kind}
+use Rattle.records.proofs.Words.{words-none}
 use Rattle.records.proofs.Cuts.{Here, record-here, clause-size}
 use Rattle.records.proofs.Heads.{heads-here, heads-later, heads-end}
 use Rattle.records.proofs.has_head.Statement.{statement}
@@ -22,16 +23,21 @@ abbrev μ-loop : tie.MeasureT-loop
 μ-loop list clauses at₀ at = length clauses - at
 
 -- the record at hand is a clause, and so are those after it
-here : (c : tie.After-record-at Inv-loop μ-loop) → Here Kind.Clause (now (c .before .before .before .before .before .args .clauses)) (c .before .before .loop .at) (now (c .record-at .result))
+here : (c : tie.After-record-at Inv-loop μ-loop) → Here Kind.Clause (now (c .before .before .before .before .before .before .args .clauses)) (c .before .before .loop .at) (now (c .record-at .result))
 here c = record-here _ _ _ _ (c .record-at .ensures) (c .before .loop-test .taken) (c .before .before .loop .inv .1)
 
 -- whether its head is in the list
 seen : (c : tie.After-in-list Inv-loop μ-loop)
-    → listed (words (now (c .before .before .before .before .before .before .before .args .list))) (word (drop 2 (now (c .before .before .record-at .result)))) ≡ c .in-list .result
-seen c = sym (c .in-list .ensures ∙ ap (listed (words (now (c .before .before .before .before .before .before .before .args .list)))) (c .before .word-at .ensures))
+    → listed (words (now (c .before .before .before .before .before .before .before .before .args .list))) (word (drop 2 (now (c .before .before .record-at .result)))) ≡ c .in-list .result
+seen c = sym (c .in-list .ensures ∙ ap (listed (words (now (c .before .before .before .before .before .before .before .before .args .list)))) (c .before .word-at .ensures))
+
+-- a list of no facts has no head
+returns : tie.Need-returns Inv-loop μ-loop
+unfolding any
+returns c = sym (ap (any (headIn (now (c .before .before .before .args .clauses)))) (words-none (now (c .before .before .before .args .list)) (c .if1 .taken)))
 
 loop-holds : tie.Need-loop-holds Inv-loop μ-loop
-loop-holds c = (omega arith, c .before .before .pre, refl)
+loop-holds c = (omega arith, c .before .before .before .pre, refl)
 
 record-at-requires : tie.Need-record-at-requires Inv-loop μ-loop
 record-at-requires c κs = search needs
@@ -42,10 +48,10 @@ word-at-requires c κs = omega (arith, clause-size _ (here c .cut))
 in-list-requires : tie.Need-in-list-requires Inv-loop μ-loop
 in-list-requires c κs = search needs
 
-returns : tie.Need-returns Inv-loop μ-loop
-returns c =
+returns-2 : tie.Need-returns-2 Inv-loop μ-loop
+returns-2 c =
     let r = c .before .before .before in
-    sym (r .before .before .loop .inv .2 ∙ heads-here _ _ _ _ (r .record-at .ensures) (r .before .loop-test .taken) (seen (c .before) ∙ c .if1 .taken))
+    sym (r .before .before .loop .inv .2 ∙ heads-here _ _ _ _ (r .record-at .ensures) (r .before .loop-test .taken) (seen (c .before) ∙ c .if2 .taken))
 
 add-at : tie.Need-add-at Inv-loop μ-loop
 add-at c = omega (arith, here (c .before .before .before))
@@ -56,11 +62,11 @@ loop-less c = omega (arith, here (c .before .before .before))
 loop-again : tie.Need-loop-again Inv-loop μ-loop
 loop-again c =
     let r = c .before .before .before in
-    let later = heads-later _ _ _ _ (r .record-at .ensures) (r .before .loop-test .taken) (seen (c .before) ∙ c .if1 .left) in
+    let later = heads-later _ _ _ _ (r .record-at .ensures) (r .before .loop-test .taken) (seen (c .before) ∙ c .if2 .left) in
     (here r .within, here r .rest, r .before .before .loop .inv .2 ∙ later)
 
-returns-2 : tie.Need-returns-2 Inv-loop μ-loop
-returns-2 c = sym (c .before .loop .inv .2 ∙ heads-end _ _ _ (c .loop-test .left))
+returns-3 : tie.Need-returns-3 Inv-loop μ-loop
+returns-3 c = sym (c .before .loop .inv .2 ∙ heads-end _ _ _ (c .loop-test .left))
 
 pub has-head-spec : {M : Type 1} → statement M
 has-head-spec =
@@ -68,12 +74,13 @@ has-head-spec =
     (tie.spec
     Inv-loop
     μ-loop
+    returns
     loop-holds
     record-at-requires
     word-at-requires
     in-list-requires
-    returns
+    returns-2
     add-at
     loop-less
     loop-again
-    returns-2)
+    returns-3)

@@ -1,7 +1,7 @@
 -- What demands 1 to 3 promise of a verdict (specs/Promises), proved: each theorem in one place, the work in the files beside this one.
 use Prim.Native.Nat.{ℕ, _≤_, _<_}
 use mathlib.Core.Path.{_≡_, refl, sym, ap, _∙_, subst}
-use mathlib.Core.Logic.{_↔_, _⊎_, ⊎-elim}
+use mathlib.Core.Logic.{_↔_, _⊎_, inl, ⊎-elim}
 use mathlib.Core.Bool.{false}
 use mathlib.Core.List.{List}
 use mathlib.Core.Option.{Option, none, some}
@@ -112,6 +112,10 @@ module _ (m t state table : List ℕ) where
       by-cause m t state table (λ v. Given m t state table (v .number)) (given-room m t state table)
       (λ room b e. subst (Given m t state table) (sym (blamed-number b)) (given-fault m t state table room b e (fault-range b e)))
       (λ w. subst (Given m t state table) (sym (ap (λ (l : Line). l .number) (ran-shows m t (outcome m t)))) (given-run m t state table (w .room) (w .fine) (outcome-range w)))
+
+  -- Whatever the files and buffers, the verdict is 0 exactly if the pair is well-formed and the trace a true attack.
+  pub accepted-exactly : (verdict m t state table .number ≡ 0) ↔ (WellFormed m t state table × TrueAttack (modelOf m) (traceOf t))
+  accepted-exactly = (λ e. let w = numbers .ran 0 (inl refl) .0 e .0 in (w, attack-exactly w .0 e), λ p. attack-exactly (p .0) .1 (p .1))
 
   -- ---- the bytes at fault
 

@@ -232,13 +232,21 @@ test_command() {
 # A copy of the commands without the program, and a builder that puts it there or fails.
 test_building() {
     local copy=$tmp/copy
-    mkdir -p "$copy/tools"
+    mkdir -p "$copy/tools" "$copy/crates"
     cp -R "$root/bin" "$copy/bin"
     printf '#!/bin/sh\necho building "$@"\nmkdir -p target/bin && cp "%s" target/bin/\n' "$program" >"$copy/tools/rt"
     chmod +x "$copy/tools/rt"
     command_run env PATH="$copy/tools:$PATH" "$copy/bin/cantivorex" "$desk" "$root/samples/A.trace"
     same 'a missing program is built' 'ATTACK step 1 fact none rounds 4 held 4' "$out"
     same 'what the builder prints goes to standard error' 'building check cantivorex' "$err"
+    # The prover leaves a program as it is where no source has changed but in its date.
+    printf '#!/bin/sh\necho building "$@"\n' >"$copy/tools/rt"
+    touch -d 2001-01-01 "$copy/target/bin/cantivorex"
+    : >"$copy/crates/new.rt"
+    command_run env PATH="$copy/tools:$PATH" "$copy/bin/cantivorex" "$desk" "$root/samples/A.trace"
+    same 'a program older than a source is built again' 'building check cantivorex' "$err"
+    command_run env PATH="$copy/tools:$PATH" "$copy/bin/cantivorex" "$desk" "$root/samples/A.trace"
+    same 'and then it is taken as it is' '' "$err"
     rm "$copy/target/bin/cantivorex"
     printf '#!/bin/sh\nexit 1\n' >"$copy/tools/rt"
     command_run env PATH="$copy/tools:$PATH" "$copy/bin/cantivorex" "$desk" "$root/samples/A.trace"

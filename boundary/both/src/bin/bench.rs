@@ -1,6 +1,5 @@
 //! `bench`: the proved library against the second program, one run, no limits. Each row takes turns with its rival and shows the best
 //! turn of each; a ratio of 2 says that the library takes twice as long.
-//! Closing is called by itself, which judges the model too, so the rival judges and closes as well.
 
 use both::plain;
 use second::gen::{self, write_model, write_trace, Rng};
@@ -11,12 +10,18 @@ use std::time::Instant;
 
 fn main() {
     let desk = desk();
-    println!("Closing (judge and close), against bench_close of the second program (clause_place and bench_close)");
+    println!(
+        "Closing alone, as a step's share of a check, against the second program's bench_close"
+    );
     head();
     for (name, model) in closings() {
-        closing(name, &model);
+        closing_alone(name, model);
     }
-    closing("desk model", &write_model(&desk));
+    println!("\nJudging and closing, against the second program's parser and bench_close");
+    head();
+    for (name, model) in closings() {
+        closing(name, &write_model(&model));
+    }
     println!("\nJudging a model, against the second program's parser, and against a plain reader in place");
     head();
     for (name, model) in judgings() {
@@ -48,11 +53,15 @@ fn race(name: &str, mut ours: impl FnMut() -> u64, mut theirs: impl FnMut() -> u
         a = a.min(time(times, &mut ours));
         b = b.min(time(times, &mut theirs));
     }
-    println!("{name:58} {a:13.0} {b:13.0} {:7.2}", a / b);
+    row(name, a, b);
+}
+
+fn row(name: &str, ours: f64, theirs: f64) {
+    println!("{name:58} {ours:13.0} {theirs:13.0} {:7.2}", ours / theirs);
 }
 
 /// Nanoseconds for one call.
-fn time(times: u32, run: &mut impl FnMut() -> u64) -> f64 {
+fn time(times: u32, mut run: impl FnMut() -> u64) -> f64 {
     let begun = Instant::now();
     for _ in 0..times {
         black_box(run());
@@ -67,6 +76,35 @@ fn state(model: &[u8]) -> [u8; 512] {
         state[f as usize / 8] |= 1 << (f % 8);
     }
     state
+}
+
+/// A rule without conditions and without effect closes the initial facts anew in each step, so steps cost their closings and little
+/// else; a check without steps costs the rest.
+fn closing_alone(name: &str, mut model: Model) {
+    model.rules = vec![Rule::default()];
+    model.attacks = vec![Attack::default()];
+    let model = write_model(&model);
+    let at = second::clause_place(&model).expect("a well-formed model");
+    let (initial, mut theirs) = (state(&model), [0; 4_096]);
+    let mut closings = |times: usize| {
+        let close = |_| second::bench_close(&model, &at, black_box(&initial), &mut theirs);
+        (0..times).map(close).sum::<usize>() as u64
+    };
+    let once = time(1, || closings(1));
+    let steps = (2e7 / once).clamp(4.0, 1_024.0) as usize;
+    let (mut s, mut ours) = ([0; 512], [0; 4_096]);
+    let (with, without) = (write_trace(0, &vec![0; steps]), write_trace(0, &[]));
+    let mut check =
+        |trace: &[u8]| cantivorex::check(&model, trace, &mut s, &mut ours).rounds as u64;
+    assert_eq!(check(&with), closings(steps + 1), "{name}");
+    let (mut all, mut rest, mut rival) = (f64::MAX, f64::MAX, f64::MAX);
+    for _ in 0..15 {
+        all = all.min(time(1, || check(&with)));
+        rest = rest.min(time(1, || check(&without)));
+        rival = rival.min(time(1, || closings(steps)));
+    }
+    let steps = steps as f64;
+    row(name, (all - rest) / steps, rival / steps);
 }
 
 fn closing(name: &str, model: &[u8]) {
@@ -244,12 +282,13 @@ fn many_negated() -> Model {
     Model { rules: vec![rule; 680], ..with(4_096, vec![0], clauses) }
 }
 
-fn closings() -> Vec<(&'static str, Vec<u8>)> {
+fn closings() -> Vec<(&'static str, Model)> {
     vec![
-        ("chain of 4,000 clauses, file order", write_model(&chains(4_000, 4_000, false))),
-        ("chain of 4,000 clauses, reversed", write_model(&chains(4_000, 4_000, true))),
-        ("random clauses of 6 body facts, full file", write_model(&bodies(4_096, 6))),
-        ("random clauses of 16 body facts, full file", write_model(&bodies(4_096, 16))),
+        ("chain of 4,000 clauses, file order", chains(4_000, 4_000, false)),
+        ("chain of 4,000 clauses, reversed", chains(4_000, 4_000, true)),
+        ("random clauses of 6 body facts, full file", bodies(4_096, 6)),
+        ("random clauses of 16 body facts, full file", bodies(4_096, 16)),
+        ("desk model", desk()),
     ]
 }
 
@@ -263,13 +302,12 @@ fn judgings() -> Vec<(&'static str, Vec<u8>)> {
 }
 
 /// Writes the closing as a logic program and has clingo solve it, if it is there.
-fn clingo(name: &str, model: &[u8]) {
+fn clingo(name: &str, model: &Model) {
     let found = Command::new("clingo").arg("--version").stdout(Stdio::null()).status();
     if !found.is_ok_and(|status| status.success()) {
         println!("{name}: clingo is not installed, skipped");
         return;
     }
-    let model = second::parse_model(model).expect("a well-formed model");
     let mut text: String = model.initial.iter().map(|f| format!("f{f}.\n")).collect();
     for Clause { head, body } in &model.clauses {
         let body: Vec<String> = body.iter().map(|f| format!("f{f}")).collect();
@@ -279,8 +317,9 @@ fn clingo(name: &str, model: &[u8]) {
     let path = std::env::temp_dir().join(format!("bench-{}.lp", std::process::id()));
     std::fs::write(&path, text).expect("a file for clingo");
     let mut run = || {
-        let done =
-            Command::new("clingo").arg("--quiet=2,2,2").arg(&path).stdout(Stdio::null()).status();
+        // -Wnone: a fact that no clause gives is no mistake here.
+        let clingo = ["--quiet=2,2,2", "-Wnone"];
+        let done = Command::new("clingo").args(clingo).arg(&path).stdout(Stdio::null()).status();
         done.expect("clingo runs").code().unwrap_or(0) as u64
     };
     let best = (0..3).map(|_| time(1, &mut run)).fold(f64::MAX, f64::min);

@@ -22,7 +22,7 @@ use Rattle.files.proofs.Shaped.{section-last}
 use Rattle.files.proofs.Order.{section-ends}
 use Rattle.files.proofs.Traces.{fine-pair}
 use Rattle.closing.specs.Closing.{noRoom}
-use Rattle.checking.specs.Verdict.{refused, blamed, withPart, ran, outcome, verdictOf}
+use Rattle.checking.specs.Verdict.{blamed, roomless, withPart, ran, outcome, verdictOf}
 use Rattle.checking.specs.Promises.{verdict, WellFormed, shown, shownOf, faultNumber, Given, InFile}
 use Rattle.checking.specs.Promises.InFile.{inModel, inTrace}
 use Rattle.checking.specs.declared.Verdict.{Verdict}
@@ -78,7 +78,7 @@ module _ (m t state table : List ℕ) where
     }
 
   -- a property of the verdict, from its cause
-  pub by-cause : (P : Verdict → Type 0) → (noRoom state table ≡ true → P (refused 1 0 0 0))
+  pub by-cause : (P : Verdict → Type 0) → (noRoom state table ≡ true → P roomless)
       → (noRoom state table ≡ false → (b : Blamed) → pairFault m t ≡ some b → P (blamed b))
       → (WellFormed m t state table → P (ran m t (outcome m t))) → P (verdict m t state table)
   unfolding verdictOf

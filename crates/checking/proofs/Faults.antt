@@ -11,7 +11,8 @@ use lib.ListN.{length, take, getD, length-take}
 use Rattle.sets.specs.Sets.{any, first}
 use Rattle.sets.proofs.Laws.{by-test}
 use Rattle.records.specs.Words.{word, words, odd, ascending}
-use Rattle.records.specs.Records.{Fault, given, _orElse_, listsOf, listOf, most, longest, judge, bare, firstFrom, firstFault, negated, records}
+use Rattle.records.specs.Records.{given, _orElse_, listsOf, listOf, most, longest, judge, bare, firstFrom, firstFault, negated, records}
+use Rattle.records.specs.declared.Fault.{Fault}
 use Rattle.records.specs.declared.Kind.{Kind}
 use Rattle.records.specs.declared.Kind.the-variants as kind
 use Rattle.records.proofs.Words.{length-words}

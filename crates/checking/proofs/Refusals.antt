@@ -6,10 +6,11 @@ use mathlib.Core.List.{List}
 use mathlib.Core.Option.{Option, none, some}
 use mathlib.Core.Logic.{_⊎_, ⊎-elim}
 use Rattle.records.specs.Records.{given, _orElse_}
+use Rattle.records.specs.declared.Fault.{Fault}
 use Rattle.files.specs.Files.{Blamed, pairFault, modelOf}
 use Rattle.files.specs.Files.Blamed.{model, trace}
 use Rattle.closing.specs.Closing.{noRoom}
-use Rattle.checking.specs.Verdict.{refused, blamed, refusal, outcome, ran, verdictOf, Left, Buffers, Checked}
+use Rattle.checking.specs.Verdict.{refused, blamed, roomless, refusal, outcome, ran, verdictOf, Left, Buffers, Checked}
 use Rattle.checking.specs.declared.Verdict.{Verdict}
 
 module _ (m t state table : List ℕ) where
@@ -24,7 +25,7 @@ module _ (m t state table : List ℕ) where
   unfolding verdictOf Buffers
   checked-run v e r l = record { verdict = rw e r; buffers = rw e l }
 
-  pub no-room : noRoom state table ≡ true → refusal m t state table ≡ some (refused 1 0 0 0)
+  pub no-room : noRoom state table ≡ true → refusal m t state table ≡ some roomless
   unfolding refusal given _orElse_
   no-room e = rw e
 
@@ -38,14 +39,12 @@ module _ (m t state table : List ℕ) where
     blames-none e = rw (room, e)
 
     -- the pair's fault, as the reader of the pair answers it
-    pub checked-blamed : (number mark start size : ℕ) (v : Verdict)
-        → ((pairFault m t ≡ some (model (record { number = number; start = start; size = size }))) × (mark ≡ 0))
-        ⊎ ((pairFault m t ≡ some (trace (record { number = number; start = start; size = size }))) × (mark ≡ 1))
-        → v ≡ refused number mark start size → Checked m t state state table table v
+    pub checked-blamed : (mark : ℕ) (f : Fault) (v : Verdict) → ((pairFault m t ≡ some (model f)) × (mark ≡ 0)) ⊎ ((pairFault m t ≡ some (trace f)) × (mark ≡ 1))
+        → v ≡ refused mark f → Checked m t state state table table v
     unfolding blamed
-    checked-blamed number mark start size v w e =
+    checked-blamed mark f v w e =
         checked-refused v
         (⊎-elim
-        (λ w. blames _ (w .0) ∙ ap {B = Option Verdict} some (sym (e ∙ ap (λ (k : ℕ). refused number k start size) (w .1))))
-        (λ w. blames _ (w .0) ∙ ap {B = Option Verdict} some (sym (e ∙ ap (λ (k : ℕ). refused number k start size) (w .1))))
+        (λ w. blames _ (w .0) ∙ ap {B = Option Verdict} some (sym (e ∙ ap (λ (k : ℕ). refused k f) (w .1))))
+        (λ w. blames _ (w .0) ∙ ap {B = Option Verdict} some (sym (e ∙ ap (λ (k : ℕ). refused k f) (w .1))))
         w)

@@ -11,6 +11,7 @@ use Rattle.meaning.specs.Run.{Outcome, run}
 use Rattle.facts.specs.Facts.{members, Kept}
 use Rattle.records.specs.Records.{given, _orElse_, records}
 use Rattle.records.specs.Answers.{placeOf}
+use Rattle.records.specs.declared.Fault.{Fault}
 use Rattle.files.specs.Sections.{sectionAt}
 use Rattle.files.specs.Files.{Blamed, section, modelOf, traceOf, pairFault}
 use Rattle.files.specs.Files.Blamed.{model, trace}
@@ -18,20 +19,24 @@ use Rattle.closing.specs.Closing.{Filled, noRoom}
 use Rattle.checking.specs.declared.Verdict.{Verdict}
 
 -- a refusal: "step .. otherwise 0", "fact .. otherwise 65,535", "rounds .. 0 for 1 to 9", "held .. 0 for 1 to 9"
-unfoldable pub refused : ℕ → ℕ → ℕ → ℕ → Verdict
-refused number mark start size = record { number = number; step = 0; fact = 65535; rounds = 0; held = 0; mark = mark; start = start; size = size }
+unfoldable pub refused : ℕ → Fault → Verdict
+refused mark f = record { number = f .number; step = 0; fact = 65535; rounds = 0; held = 0; mark = mark; start = f .start; size = f .size }
 
 -- the fault of a pair as a verdict: mark 0 is the model, 1 the trace
 unfoldable pub blamed : Blamed → Verdict
 unfolding refused
-blamed (model f) = refused (f .number) 0 (f .start) (f .size)
-blamed (trace f) = refused (f .number) 1 (f .start) (f .size)
+blamed (model f) = refused 0 f
+blamed (trace f) = refused 1 f
 
--- "Every refusal before any step is run, in the fixed order": 1, then the pair's first fault. "For 0 and 1: the empty part at the model's start."
+-- 1: "For 0 and 1: the empty part at the model's start."
+abbrev pub roomless : Verdict
+roomless = refused 0 (record { number = 1; start = 0; size = 0 })
+
+-- "Every refusal before any step is run, in the fixed order": 1, then the pair's first fault
 unfoldable pub refusal : List ℕ → List ℕ → List ℕ → List ℕ → Option Verdict
 unfolding noRoom refused blamed given _orElse_ pairFault
 refusal m t state table =
-    given (noRoom state table) (refused 1 0 0 0)
+    given (noRoom state table) roomless
     orElse elim (pairFault m t) [ none ↦ none | some b ↦ some (blamed b) ]
 
 -- an outcome as a verdict, with the bytes at fault

@@ -1,13 +1,14 @@
 // The verdict on a pair of files, and what it leaves in the lent buffers.
 // stepping: how a state changes; running: the run of a judged pair.
 ghost use mathlib.Core.Path.{_≡_};
-ghost use Rattle.checking.specs.Verdict.{Checked, refused};
+ghost use Rattle.checking.specs.Verdict.{Checked, refused, roomless};
 
 pub mod running;
 pub mod stepping;
 
 use files::Pair;
 use files::both;
+use records::Fault;
 
 // Document 01's verdict: its number and the four values that the line shows, and the bytes at fault by mark, place and length.
 pub struct Verdict {
@@ -21,20 +22,34 @@ pub struct Verdict {
     pub size: usize,
 }
 
-// A refusal: its number and the bytes at fault.
-fn refuse(number: u8, mark: u8, start: usize, size: usize) -> Verdict
-    ensures { λ r. ⌜ r ≡ refused number mark start size ⌝ }
+// A refusal: its fault, and the mark that says whose bytes are at fault.
+fn refuse(mark: u8, fault: Fault) -> Verdict
+    ensures { λ r. ⌜ r ≡ refused mark fault ⌝ }
 {
     Verdict {
-        number,
+        number: fault.number,
         step: 0,
         fact: 65535,
         rounds: 0,
         held: 0,
         mark,
-        start,
-        size,
+        start: fault.start,
+        size: fault.size,
     }
+}
+
+// The refusal of a buffer that is too short.
+fn refuse_room() -> Verdict
+    ensures { λ r. ⌜ r ≡ roomless ⌝ }
+{
+    refuse(
+        0,
+        Fault {
+            number: 1,
+            start: 0,
+            size: 0,
+        },
+    )
 }
 
 // The verdict on a model and a trace. A refusal leaves both buffers as they were; otherwise the first 512 bytes hold the last state
@@ -43,18 +58,13 @@ pub fn check(model: &[u8], trace: &[u8], state: &mut [u8], table: &mut [u16]) ->
     ensures { λ r. ⌜ Checked (now (model .entry)) (now (trace .entry)) (now (state .entry)) (now (state .exit)) (now (table .entry)) (now (table .exit)) r ⌝ }
 {
     if state.len() < 512 {
-        return refuse(1, 0, 0, 0);
+        return refuse_room();
     }
     if table.len() < 4096 {
-        return refuse(1, 0, 0, 0);
+        return refuse_room();
     }
     match both::judge_pair(model, trace) {
-        Pair::Fault {
-            number,
-            mark,
-            start,
-            size,
-        } => refuse(number, mark, start, size),
+        Pair::Fault(mark, fault) => refuse(mark, fault),
         Pair::Fine(layout) => running::run(model, trace, layout, state, table),
     }
 }

@@ -1,11 +1,9 @@
 // The run of a judged pair: the search over the steps and their conditions for the first that is not met.
 ghost use mathlib.Core.Path.{_≡_};
 ghost use mathlib.Core.Option.{none};
-ghost use Prim.Native.Nat.{ℕ, _+_, _-_, _*_, _/_, _≤_, _<_};
+ghost use Prim.Native.Nat.{_-_, _/_, _≤_};
 ghost use lib.ListN.{length};
-ghost use Rattle.records.specs.Answers.{AllCut, Cut};
-ghost use Rattle.records.specs.declared.Kind.{Kind};
-ghost use Rattle.files.specs.Files.{clausesIn, pairFault, modelOf, traceOf};
+ghost use Rattle.files.specs.Files.{pairFault, modelOf, traceOf};
 ghost use Rattle.files.specs.Answers.{layoutOf};
 ghost use Rattle.checking.specs.Running.{Ready, Begun, AskedIn, Ends, EndsAt, kindAt};
 ghost use Rattle.checking.specs.Verdict.{outcome, ran, Left};

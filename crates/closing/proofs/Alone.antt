@@ -15,7 +15,8 @@ use Rattle.meaning.specs.Model.{Clause}
 use Rattle.meaning.specs.Rounds.{rounds}
 use Rattle.facts.specs.Facts.{members, AnyFrom}
 use Rattle.facts.proofs.Laws.{below-or-from, beyond}
-use Rattle.records.specs.Records.{Fault, given, _orElse_}
+use Rattle.records.specs.Records.{given, _orElse_}
+use Rattle.records.specs.declared.Fault.{Fault}
 use Rattle.files.specs.Files.{section, clausesIn, factCount, modelOf, tooLong, wrongVersion, shapeFault, negatedFault, modelFault}
 use Rattle.files.proofs.Shaped.{neither}
 use Rattle.files.proofs.Laws.{facts-bound, clauses-bound, clause-below}

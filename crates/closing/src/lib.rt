@@ -160,11 +160,7 @@ pub fn close(model: &[u8], state: &[u8], table: &mut [u16]) -> Closed
         return Closed::Refused(1);
     }
     match model::judge_model(model) {
-        Judged::Fault {
-            number,
-            start: _,
-            size: _,
-        } => Closed::Refused(number),
+        Judged::Fault(fault) => Closed::Refused(fault.number),
         Judged::Fine(layout) => close_shaped(model, layout, state, table),
     }
 }

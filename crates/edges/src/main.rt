@@ -22,16 +22,11 @@ fn print_answer(label: &[u8], answer: Pair) {
         Pair::Fine(_) => {
             io::write_all(STDOUT_FILENO, b": fine");
         }
-        Pair::Fault {
-            number,
-            mark,
-            start,
-            size,
-        } => {
-            print_value(b": number ", number as usize);
+        Pair::Fault(mark, fault) => {
+            print_value(b": number ", fault.number as usize);
             print_value(b" mark ", mark as usize);
-            print_value(b" start ", start);
-            print_value(b" size ", size);
+            print_value(b" start ", fault.start);
+            print_value(b" size ", fault.size);
         }
     }
     io::write_all(STDOUT_FILENO, b"\n");

@@ -7,7 +7,8 @@ use mathlib.Core.Option.{Option, none, some}
 use native.Mathlib.Omega.{arith}
 use lib.Dec.{ltb, eqb}
 use lib.ListN.{length, take, getD}
-use Rattle.records.specs.Records.{Fault, given, _orElse_}
+use Rattle.records.specs.Records.{given, _orElse_}
+use Rattle.records.specs.declared.Fault.{Fault}
 use Rattle.files.specs.Files.{tooLong, wrongVersion}
 use Rattle.files.specs.Answers.{numberOf, passed, judged}
 use Rattle.files.specs.declared.Layout.{Layout}
@@ -15,10 +16,6 @@ use Rattle.files.specs.declared.Passed.{Passed}
 use Rattle.files.specs.declared.Judged.{Judged}
 
 -- ---- a section and a model
-
--- a fault is its number and its place
-fault-is : (f : Fault) {number start size : ℕ} → f .number ≡ number → f .start ≡ start → f .size ≡ size → some f ≡ some (record { number = number; start = start; size = size })
-fault-is f n s z = λ i. some (record { number = n i; start = s i; size = z i })
 
 -- An answer `To` for a section says that nothing is at fault, where the section ends and how many records it has.
 pub passed-to : {r : Passed} (fault : Option Fault) (end count e c : ℕ) → r ≡ passed fault end count → r ≡ Passed.To e c → (fault ≡ none) × (end ≡ e) × (count ≡ c)
@@ -31,11 +28,10 @@ pub passed-count : (fault : Option Fault) (end count : ℕ) {e c : ℕ} {r : Pas
 passed-count fault end count is told = sym (passed-to fault end count _ _ is told .2)
 
 -- An answer `Fault` says which fault it is.
-pub passed-fault : {r : Passed} (fault : Option Fault) (end count number start size : ℕ) → r ≡ passed fault end count → r ≡ Passed.Fault number start size
-    → fault ≡ some (record { number = number; start = start; size = size })
+pub passed-fault : {r : Passed} (fault : Option Fault) (end count : ℕ) (f : Fault) → r ≡ passed fault end count → r ≡ Passed.Fault f → fault ≡ some f
 unfolding passed
-passed-fault none end count number start size is told = let z : _≡_ {A = ℕ} 0 1 = cc in absurd (omega arith)
-passed-fault (some f) end count number start size is told = fault-is f (cc) (cc) (cc)
+passed-fault none end count f is told = let z : _≡_ {A = ℕ} 0 1 = cc in absurd (omega arith)
+passed-fault (some g) end count f is told = cc
 
 -- An answer `Fine` for a model says that nothing is at fault, and what its layout is.
 pub judged-fine : {r : Judged} (fault : Option Fault) (l m : Layout) → r ≡ judged fault l → r ≡ Judged.Fine m → (fault ≡ none) × (l ≡ m)
@@ -44,14 +40,13 @@ judged-fine none l m is told = (refl, cc)
 judged-fine (some f) l m is told = let z : _≡_ {A = ℕ} 0 1 = cc in absurd (omega arith)
 
 -- An answer `Fault` says which fault it is.
-pub judged-fault : {r : Judged} (fault : Option Fault) (l : Layout) (number start size : ℕ) → r ≡ judged fault l → r ≡ Judged.Fault number start size
-    → fault ≡ some (record { number = number; start = start; size = size })
+pub judged-fault : {r : Judged} (fault : Option Fault) (l : Layout) (f : Fault) → r ≡ judged fault l → r ≡ Judged.Fault f → fault ≡ some f
 unfolding judged
-judged-fault none l number start size is told = let z : _≡_ {A = ℕ} 0 1 = cc in absurd (omega arith)
-judged-fault (some f) l number start size is told = fault-is f (cc) (cc) (cc)
+judged-fault none l f is told = let z : _≡_ {A = ℕ} 0 1 = cc in absurd (omega arith)
+judged-fault (some g) l f is told = cc
 
 -- The answer for a fault that there is.
-pub judged-some : (fault : Option Fault) (l : Layout) (f : Fault) → fault ≡ some f → Judged.Fault (f .number) (f .start) (f .size) ≡ judged fault l
+pub judged-some : (fault : Option Fault) (l : Layout) (f : Fault) → fault ≡ some f → Judged.Fault f ≡ judged fault l
 unfolding judged
 judged-some fault l f e = rw e
 

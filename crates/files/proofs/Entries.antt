@@ -11,7 +11,8 @@ use lib.ListN.{length, drop, length-drop}
 use borrow.Author.Tests.{lt-ltb, le-ltb, eqb-false}
 use Rattle.sets.specs.Sets.{first}
 use Rattle.records.specs.Words.{words, odd}
-use Rattle.records.specs.Records.{Fault, given, _orElse_}
+use Rattle.records.specs.Records.{given, _orElse_}
+use Rattle.records.specs.declared.Fault.{Fault}
 use Rattle.records.proofs.Words.{odd-is, length-words}
 use Rattle.files.specs.Sections.{endAt, sectionAt, fits, payload, restFault, moved, inSection, leftOver, allOf}
 use Rattle.files.specs.Files.{section, traceOf, traceShape, traceCount, lacks, traceNames, traceFault}
@@ -63,7 +64,7 @@ module _ (goals rules : ℕ) (file : List ℕ) (end : ℕ) (ended : Ended file 1
   chain = rw (entries, ended .is, fit-fault file 1 traceShape (ended .fit), fit-fault file 1 traceCount (ended .fit), fit-fault file 1 (traceNames goals rules) (ended .fit))
 
   -- It is 4 for bytes that are too few or odd.
-  pub answer-shape : (length bytes < 2) ⊎ (eqb (length bytes % 2) 1 ≡ true) → Passed.Fault 4 5 (length bytes) ≡ answer goals rules file
+  pub answer-shape : (length bytes < 2) ⊎ (eqb (length bytes % 2) 1 ≡ true) → Passed.Fault (record { number = 4; start = 5; size = length bytes }) ≡ answer goals rules file
   unfolding traceShape given allOf moved _orElse_ passed
   answer-shape h = rw (chain, misshapen h)
     where
@@ -84,7 +85,7 @@ module _ (goals rules : ℕ) (file : List ℕ) (end : ℕ) (ended : Ended file 1
 
     module _ (done : length file ≤ end) where
       -- It is 5 for too many steps.
-      pub answer-count : 1024 < length bytes / 2 - 1 → Passed.Fault 5 5 (length bytes) ≡ answer goals rules file
+      pub answer-count : 1024 < length bytes / 2 - 1 → Passed.Fault (record { number = 5; start = 5; size = length bytes }) ≡ answer goals rules file
       unfolding traceCount leftOver given allOf moved _orElse_ passed
       answer-count h =
           let many : 1 + 1024 < length (words bytes) = omega (arith, length-words bytes) in
@@ -115,7 +116,7 @@ module _ (goals rules : ℕ) {file : List ℕ} {end : ℕ} {bytes : List ℕ} (s
       omega (arith, length-words bytes)
 
   -- It is 9 for that entry.
-  pub answer-name : at < length bytes → Passed.Fault 9 (5 + at) 2 ≡ answer goals rules file
+  pub answer-name : at < length bytes → Passed.Fault (record { number = 9; start = 5 + at; size = 2 }) ≡ answer goals rules file
   unfolding traceNames given moved passed
   answer-name h = rw (names-left, lt-ltb _ _ (spot .0 h), found)
 

@@ -12,7 +12,8 @@ use borrow.Author.Tests.{lt-ltb, le-ltb, leb-false, ltb-false, eqb-true, not-fal
 use Rattle.sets.specs.Sets.{any, _∈_}
 use Rattle.sets.proofs.Laws.{is-false, fails, any-intro}
 use Rattle.records.specs.Words.{word, words, odd, ascending}
-use Rattle.records.specs.Records.{Fault, given, _orElse_, records, bare, judge, firstFault, negated}
+use Rattle.records.specs.Records.{given, _orElse_, records, bare, judge, firstFault, negated}
+use Rattle.records.specs.declared.Fault.{Fault}
 use Rattle.records.specs.Answers.{headIn, AllCut, listCount}
 use Rattle.records.specs.declared.Kind.{Kind}
 use Rattle.records.proofs.Laws.{judged-cut}
@@ -52,8 +53,8 @@ module _ (file : List ℕ) where
         record { fine = rw (place, known) at fine; ends = sym (rw place at end) }
 
     -- An answer `Fault`: that is its fault.
-    pub section-refused : {number start size : ℕ} → r ≡ Passed.Fault number start size → fault-at file reader i ≡ some (record { number = number; start = start; size = size })
-    section-refused h = rw (place, known) at (passed-fault _ _ _ _ _ _ is h)
+    pub section-refused : {f : Fault} → r ≡ Passed.Fault f → fault-at file reader i ≡ some f
+    section-refused h = rw (place, known) at (passed-fault _ _ _ _ is h)
 
   module _ {facts initial clauses rules : ℕ} (b : Begun file facts initial clauses rules) where
     -- In a model that is fine up to the rules the first fault is in the rules, in the attack states or after them.

@@ -12,7 +12,8 @@ use lib.Seq.{getD-drop, drop-drop, length-take-le}
 use borrow.Author.Tests.{le-leb, lt-leb, ne-eqb}
 use Rattle.sets.specs.Sets.{any}
 use Rattle.records.specs.Words.{word, words, odd, ascending}
-use Rattle.records.specs.Records.{Fault, given, _orElse_, records, bare, firstFrom, firstFault}
+use Rattle.records.specs.Records.{given, _orElse_, records, bare, firstFrom, firstFault}
+use Rattle.records.specs.declared.Fault.{Fault}
 use Rattle.records.specs.Answers.{code, placeOf}
 use Rattle.records.proofs.Sections.{first-here, first-later}
 use Rattle.records.proofs.Places.{records-sum}
@@ -176,7 +177,7 @@ module _ (file : List ℕ) (at : ℕ) where
 
   -- A section in which it finds a fault.
   pub fault-answer : (reader : List ℕ → Option Fault) (end count : ℕ) (f : Fault) → Ended file at end → reader (payload file at) ≡ some f
-      → Passed.Fault (f .number) (at + 4 + f .start) (f .size) ≡ passed (inSection reader file at) (endAt file at) count
+      → Passed.Fault (moved (at + 4) f) ≡ passed (inSection reader file at) (endAt file at) count
   unfolding passed moved
   fault-answer reader end count f s e = rw (fit-fault reader (s .fit), e)
 

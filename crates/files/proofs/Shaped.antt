@@ -7,7 +7,8 @@ use mathlib.Core.Option.{Option, none, some, Option·map, Option·some-ne-none}
 use native.Mathlib.Omega.{arith}
 use lib.ListN.{length, take, drop, length-drop, length-map}
 use borrow.Author.Tests.{leb-true, ltb-false}
-use Rattle.records.specs.Records.{Fault, given, _orElse_, records, judge, firstFault}
+use Rattle.records.specs.Records.{given, _orElse_, records, judge, firstFault}
+use Rattle.records.specs.declared.Fault.{Fault}
 use Rattle.records.specs.declared.Kind.the-variants as kind
 use Rattle.files.specs.Sections.{long, endAt, sectionAt, fits, payload, restFault, moved, inSection, leftOver}
 use Rattle.files.specs.Files.{section, factCount, ruleIn, goalIn, modelOf, sizes, numbers, shapeFault}

@@ -15,7 +15,8 @@ use Rattle.sets.specs.Sets.{every, first}
 use Rattle.sets.proofs.Laws.{both, passes, first-before}
 use Rattle.meaning.specs.Run.{named}
 use Rattle.records.specs.Words.{word, words, odd}
-use Rattle.records.specs.Records.{Fault, _orElse_}
+use Rattle.records.specs.Records.{_orElse_}
+use Rattle.records.specs.declared.Fault.{Fault}
 use Rattle.records.proofs.Words.{words-two, length-words, even-length}
 use Rattle.records.proofs.Judging.{or-clear}
 use Rattle.files.specs.Sections.{long, endAt, sectionAt, fits, payload, inSection, leftOver}
@@ -150,18 +151,13 @@ paired-fine none l l′ is e = (refl, cc)
 paired-fine (some (model f)) l l′ is e = let z : _≡_ {A = ℕ} 0 1 = cc in absurd (omega arith)
 paired-fine (some (trace f)) l l′ is e = let z : _≡_ {A = ℕ} 0 1 = cc in absurd (omega arith)
 
-blamed-is : (blame : Fault → Blamed) (f : Fault) {number start size : ℕ} → f .number ≡ number → f .start ≡ start → f .size ≡ size
-    → _≡_ {A = Option Blamed} (some (blame f)) (some (blame (record { number = number; start = start; size = size })))
-blamed-is blame f n s z = λ i. some (blame (record { number = n i; start = s i; size = z i }))
-
 -- An answer `Fault` says which fault it is, and by its mark whose: 0 is the model's, 1 the trace's.
-pub paired-fault : {r : Pair} (fault : Option Blamed) (l : Layout) (number mark start size : ℕ) → r ≡ paired fault l → r ≡ Pair.Fault number mark start size
-    → let f : Fault = record { number = number; start = start; size = size } in
-    ((fault ≡ some (model f)) × (mark ≡ 0)) ⊎ ((fault ≡ some (trace f)) × (mark ≡ 1))
+pub paired-fault : {r : Pair} (fault : Option Blamed) (l : Layout) (mark : ℕ) (f : Fault) → r ≡ paired fault l → r ≡ Pair.Fault mark f
+    → ((fault ≡ some (model f)) × (mark ≡ 0)) ⊎ ((fault ≡ some (trace f)) × (mark ≡ 1))
 unfolding paired
-paired-fault none l number mark start size is e = let z : _≡_ {A = ℕ} 0 1 = cc in absurd (omega arith)
-paired-fault (some (model f)) l number mark start size is e = inl (blamed-is model f (cc) (cc) (cc), cc)
-paired-fault (some (trace f)) l number mark start size is e = inr (blamed-is trace f (cc) (cc) (cc), cc)
+paired-fault none l mark f is e = let z : _≡_ {A = ℕ} 0 1 = cc in absurd (omega arith)
+paired-fault (some (model g)) l mark f is e = inl (cc, cc)
+paired-fault (some (trace g)) l mark f is e = inr (cc, cc)
 
 -- ---- a pair with no fault
 

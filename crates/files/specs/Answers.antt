@@ -4,7 +4,8 @@ use mathlib.Core.Path.{_≡_}
 use mathlib.Core.List.{List, []}
 use mathlib.Core.Option.{Option, none, some}
 use lib.ListN.{length, take, drop}
-use Rattle.records.specs.Records.{Fault, records, judge, firstFault}
+use Rattle.records.specs.Records.{records, judge, firstFault}
+use Rattle.records.specs.declared.Fault.{Fault}
 use Rattle.records.specs.declared.Kind.the-variants as kind
 use Rattle.files.specs.Sections.{sectionAt, inSection}
 use Rattle.files.specs.Files.{Blamed, section, factCount, sizes, numbers, shapeFault}
@@ -36,18 +37,18 @@ numberOf (some f) = f .number
 -- the answer for one section: its fault, or where it ends and how many records it has
 unfoldable pub passed : Option Fault → ℕ → ℕ → Passed
 passed none end count = Passed.To end count
-passed (some f) end count = Passed.Fault (f .number) (f .start) (f .size)
+passed (some f) end count = Passed.Fault f
 
 -- the answer for a model: its fault, or its layout
 unfoldable pub judged : Option Fault → Layout → Judged
 judged none l = Judged.Fine l
-judged (some f) l = Judged.Fault (f .number) (f .start) (f .size)
+judged (some f) l = Judged.Fault f
 
 -- "with a mark saying which": 0 is the model, 1 the trace
 unfoldable pub paired : Option Blamed → Layout → Pair
 paired none l = Pair.Fine l
-paired (some (model f)) l = Pair.Fault (f .number) 0 (f .start) (f .size)
-paired (some (trace f)) l = Pair.Fault (f .number) 1 (f .start) (f .size)
+paired (some (model f)) l = Pair.Fault 0 f
+paired (some (trace f)) l = Pair.Fault 1 f
 
 -- "handed back as a part of the model or of the trace itself": the bytes of a place in the file marked, as far as the file has them; for any other mark none
 unfoldable pub partOf : List ℕ → List ℕ → ℕ → ℕ → ℕ → List ℕ

@@ -8,7 +8,8 @@ use lib.ListN.{length, take, drop, getD}
 use Rattle.sets.specs.Sets.{any, first}
 use Rattle.meaning.specs.Model.{Clause, Rule, Goal, Model, Trace}
 use Rattle.records.specs.Words.{word, words, odd}
-use Rattle.records.specs.Records.{Fault, given, _orElse_, records, listOf, bare, judge, firstFault, negated}
+use Rattle.records.specs.Records.{given, _orElse_, records, listOf, bare, judge, firstFault, negated}
+use Rattle.records.specs.declared.Fault.{Fault}
 use Rattle.records.specs.declared.Kind.the-variants as kind
 use Rattle.files.specs.Sections.{inSection, leftOver, allOf, payload, sectionAt}
 

@@ -5,7 +5,8 @@ use mathlib.Core.List.{List}
 use mathlib.Core.Option.{Option, none, some, Option·map}
 use lib.Dec.{leb, ltb}
 use lib.ListN.{length, take, drop, getD}
-use Rattle.records.specs.Records.{Fault, given}
+use Rattle.records.specs.Records.{given}
+use Rattle.records.specs.declared.Fault.{Fault}
 
 -- the number that the first four bytes are, big-endian
 unfoldable pub long : List ℕ → ℕ

@@ -1,8 +1,6 @@
 // A pair of files: the first fault of both in document 01's order, and the bytes at fault.
 ghost use mathlib.Core.Path.{_≡_};
-ghost use mathlib.Core.Bool.{cond};
-ghost use lib.Dec.{eqb};
-ghost use lib.ListN.{length, take, drop};
+ghost use lib.ListN.{take, drop};
 ghost use Rattle.files.specs.Files.{pairFault};
 ghost use Rattle.files.specs.Answers.{layoutOf, paired, partOf};
 use super::Judged;
@@ -18,68 +16,25 @@ pub fn judge_pair(model: &[u8], trace: &[u8]) -> Pair
     let model_head = model::head_number(model, 65536);
     let trace_head = model::head_number(trace, 4096);
     if model_head == 2 {
-        return head_fault(model, 2, 0);
+        return Pair::Fault(0, model::long_fault(model));
     }
     if trace_head == 2 {
-        return head_fault(trace, 2, 1);
+        return Pair::Fault(1, model::long_fault(trace));
     }
     if model_head == 3 {
-        return head_fault(model, 3, 0);
+        return Pair::Fault(0, model::version_fault(model));
     }
     if trace_head == 3 {
-        return head_fault(trace, 3, 1);
+        return Pair::Fault(1, model::version_fault(trace));
     }
     match model::judge_shape(model) {
-        Judged::Fault {
-            number,
-            start,
-            size,
-        } => Pair::Fault {
-            number,
-            mark: 0,
-            start,
-            size,
-        },
+        Judged::Fault(fault) => Pair::Fault(0, fault),
         Judged::Fine(layout) => match model::judge_negated(model, layout) {
-            Judged::Fault {
-                number,
-                start,
-                size,
-            } => Pair::Fault {
-                number,
-                mark: 0,
-                start,
-                size,
-            },
+            Judged::Fault(fault) => Pair::Fault(0, fault),
             Judged::Fine(_) => match trace::judge_trace(trace, layout.goalcount, layout.rulecount) {
-                Passed::Fault {
-                    number,
-                    start,
-                    size,
-                } => Pair::Fault {
-                    number,
-                    mark: 1,
-                    start,
-                    size,
-                },
+                Passed::Fault(fault) => Pair::Fault(1, fault),
                 Passed::To { end: _, count: _ } => Pair::Fine(layout),
             },
-        },
-    }
-}
-
-// The fault of a file's size or version: all its bytes for 2, the first for 3.
-fn head_fault(file: &[u8], number: u8, mark: u8) -> Pair
-    ensures { λ r. ⌜ r ≡ Pair.Fault number mark 0 (cond (eqb number 2) (length (now (file .entry))) (length (take 1 (now (file .entry))))) ⌝ }
-{
-    Pair::Fault {
-        number,
-        mark,
-        start: 0,
-        size: if number == 2 {
-            file.len()
-        } else {
-            model::first_byte(file)
         },
     }
 }

@@ -7,6 +7,8 @@ pub mod model;
 pub mod sections;
 pub mod trace;
 
+use records::Fault;
+
 // Where the lengths of a judged model's sections stand, where the last section ends, and how many rules and attack states there are.
 pub struct Layout {
     pub facts: usize,
@@ -21,34 +23,18 @@ pub struct Layout {
 
 // What one section is: fine, with its end and how many records it has, or at fault.
 pub enum Passed {
-    To {
-        end: usize,
-        count: usize,
-    },
-    Fault {
-        number: u8,
-        start: usize,
-        size: usize,
-    },
+    To { end: usize, count: usize },
+    Fault(Fault),
 }
 
 // What a model is.
 pub enum Judged {
     Fine(Layout),
-    Fault {
-        number: u8,
-        start: usize,
-        size: usize,
-    },
+    Fault(Fault),
 }
 
 // What a pair of files is; the mark says whose bytes are at fault, 0 the model's, 1 the trace's.
 pub enum Pair {
     Fine(Layout),
-    Fault {
-        number: u8,
-        mark: u8,
-        start: usize,
-        size: usize,
-    },
+    Fault(u8, Fault),
 }

@@ -13,6 +13,7 @@ use super::Layout;
 use super::Passed;
 use super::held;
 use super::sections;
+use records::Fault;
 use records::Found;
 use records::Kind;
 
@@ -22,46 +23,16 @@ pub fn judge_shape(model: &[u8]) -> Judged
 {
     let initial = match sections::sizes_section(model) {
         Passed::To { end, count: _ } => end,
-        Passed::Fault {
-            number,
-            start,
-            size,
-        } => {
-            return Judged::Fault {
-                number,
-                start,
-                size,
-            };
-        }
+        Passed::Fault(fault) => return Judged::Fault(fault),
     };
     let facts = records::word_at(model, 5);
     let clauses = match sections::numbers_section(model, initial, facts) {
         Passed::To { end, count: _ } => end,
-        Passed::Fault {
-            number,
-            start,
-            size,
-        } => {
-            return Judged::Fault {
-                number,
-                start,
-                size,
-            };
-        }
+        Passed::Fault(fault) => return Judged::Fault(fault),
     };
     let rules = match sections::records_section(model, clauses, Kind::Clause, facts) {
         Passed::To { end, count: _ } => end,
-        Passed::Fault {
-            number,
-            start,
-            size,
-        } => {
-            return Judged::Fault {
-                number,
-                start,
-                size,
-            };
-        }
+        Passed::Fault(fault) => return Judged::Fault(fault),
     };
     judge_last(model, facts, initial, clauses, rules)
 }
@@ -72,38 +43,23 @@ fn judge_last(model: &[u8], facts: usize, initial: usize, clauses: usize, rules:
     ensures { λ r. ⌜ r ≡ judged (shapeFault (now (model .entry))) (layoutOf (now (model .entry))) ⌝ }
 {
     match sections::records_section(model, rules, Kind::Rule, facts) {
-        Passed::Fault {
-            number,
-            start,
-            size,
-        } => Judged::Fault {
-            number,
-            start,
-            size,
-        },
+        Passed::Fault(fault) => Judged::Fault(fault),
         Passed::To {
             end: goals,
             count: rulecount,
         } => match sections::records_section(model, goals, Kind::Goal, facts) {
-            Passed::Fault {
-                number,
-                start,
-                size,
-            } => Judged::Fault {
-                number,
-                start,
-                size,
-            },
+            Passed::Fault(fault) => Judged::Fault(fault),
             Passed::To {
                 end,
                 count: goalcount,
             } => {
                 if end < model.len() {
-                    return Judged::Fault {
+                    let size = model.len() - end;
+                    return Judged::Fault(Fault {
                         number: 4,
                         start: end,
-                        size: model.len() - end,
-                    };
+                        size,
+                    });
                 }
                 Judged::Fine(Layout {
                     facts,
@@ -127,15 +83,15 @@ fn negated_section(section: &[u8], at: usize, kind: Kind, clauses: &[u8], layout
 {
     match records::first_negated(section, kind, clauses) {
         Found::Fine(_) => Judged::Fine(layout),
-        Found::Fault {
-            number,
-            start,
-            size,
-        } => Judged::Fault {
-            number,
-            start: at + 4 + start,
-            size,
-        },
+        Found::Fault(fault) => {
+            let by = at + 4;
+            let start = by + fault.start;
+            Judged::Fault(Fault {
+                number: fault.number,
+                start,
+                size: fault.size,
+            })
+        }
     }
 }
 
@@ -148,15 +104,7 @@ pub fn judge_negated(model: &[u8], layout: Layout) -> Judged
     let rules = held::rules(model, layout);
     let goals = held::goals(model, layout);
     match negated_section(rules, layout.rules, Kind::Rule, clauses, layout) {
-        Judged::Fault {
-            number,
-            start,
-            size,
-        } => Judged::Fault {
-            number,
-            start,
-            size,
-        },
+        Judged::Fault(fault) => Judged::Fault(fault),
         Judged::Fine(_) => negated_section(goals, layout.goals, Kind::Goal, clauses, layout),
     }
 }
@@ -177,11 +125,26 @@ pub fn head_number(file: &[u8], most: usize) -> u8
     0
 }
 
-// How many bytes the first one is: none in an empty file.
-pub fn first_byte(file: &[u8]) -> usize
-    ensures { λ r. ⌜ r ≡ length (take 1 (now (file .entry))) ⌝ }
+// The fault of a file over its size: the whole file.
+pub fn long_fault(file: &[u8]) -> Fault
+    ensures { λ r. ⌜ r ≡ record { number = 2; start = 0; size = length (now (file .entry)) } ⌝ }
 {
-    if file.len() == 0 { 0 } else { 1 }
+    Fault {
+        number: 2,
+        start: 0,
+        size: file.len(),
+    }
+}
+
+// The fault of a wrong version: the first byte, which an empty file lacks.
+pub fn version_fault(file: &[u8]) -> Fault
+    ensures { λ r. ⌜ r ≡ record { number = 3; start = 0; size = length (take 1 (now (file .entry))) } ⌝ }
+{
+    Fault {
+        number: 3,
+        start: 0,
+        size: if file.len() == 0 { 0 } else { 1 },
+    }
 }
 
 // The model by itself: 2, 3, 4 to 7, then 8.
@@ -190,29 +153,13 @@ pub fn judge_model(model: &[u8]) -> Judged
 {
     let number = head_number(model, 65536);
     if number == 2 {
-        return Judged::Fault {
-            number,
-            start: 0,
-            size: model.len(),
-        };
+        return Judged::Fault(long_fault(model));
     }
     if number == 3 {
-        return Judged::Fault {
-            number,
-            start: 0,
-            size: first_byte(model),
-        };
+        return Judged::Fault(version_fault(model));
     }
     match judge_shape(model) {
         Judged::Fine(layout) => judge_negated(model, layout),
-        Judged::Fault {
-            number,
-            start,
-            size,
-        } => Judged::Fault {
-            number,
-            start,
-            size,
-        },
+        Judged::Fault(fault) => Judged::Fault(fault),
     }
 }

@@ -10,6 +10,7 @@ ghost use Rattle.files.specs.Sections.{long, endAt, fits, payload, inSec
 ghost use Rattle.files.specs.Files.{sizes, numbers};
 ghost use Rattle.files.specs.Answers.{numberOf, passed};
 use super::Passed;
+use records::Fault;
 use records::Found;
 use records::Kind;
 
@@ -46,11 +47,11 @@ pub fn rest_fault(file: &[u8], at: usize) -> Passed
     if at < file.len() {
         size = file.len() - at;
     }
-    Passed::Fault {
+    Passed::Fault(Fault {
         number: 4,
         start: at,
         size,
-    }
+    })
 }
 
 // The answer for a section whose bytes are judged as one record: its number is for all of them.
@@ -61,11 +62,11 @@ fn whole_section(number: u8, at: usize, end: usize) -> Passed
     if number == 0 {
         return Passed::To { end, count: 0 };
     }
-    Passed::Fault {
+    Passed::Fault(Fault {
         number,
         start: at + 4,
         size: end - (at + 4),
-    }
+    })
 }
 
 // The number for the sizes: 4 or 5, or 0.
@@ -115,14 +116,13 @@ pub fn records_section(file: &[u8], at: usize, kind: Kind, facts: usize) -> Pass
     let by = at + 4;
     match records::first_fault(&file[by..end], kind, facts) {
         Found::Fine(count) => Passed::To { end, count },
-        Found::Fault {
-            number,
-            start,
-            size,
-        } => Passed::Fault {
-            number,
-            start: by + start,
-            size,
-        },
+        Found::Fault(fault) => {
+            let start = by + fault.start;
+            Passed::Fault(Fault {
+                number: fault.number,
+                start,
+                size: fault.size,
+            })
+        }
     }
 }

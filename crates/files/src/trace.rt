@@ -9,6 +9,7 @@ ghost use Rattle.files.specs.Files.{lacks, traceFault, traceOf};
 ghost use Rattle.files.specs.Answers.{passed};
 use super::Passed;
 use super::sections;
+use records::Fault;
 
 // The trace's 4, 5 and 9, or how many steps it has, for a model with so many attack states and rules.
 pub fn judge_trace(trace: &[u8], goals: usize, rules: usize) -> Passed
@@ -21,30 +22,31 @@ pub fn judge_trace(trace: &[u8], goals: usize, rules: usize) -> Passed
     let entries = &trace[5..end];
     let size = entries.len();
     if size < 2 || size % 2 == 1 {
-        return Passed::Fault {
+        return Passed::Fault(Fault {
             number: 4,
             start: 5,
             size,
-        };
+        });
     }
     if end < trace.len() {
         return sections::rest_fault(trace, end);
     }
     let steps = size / 2 - 1;
     if 1024 < steps {
-        return Passed::Fault {
+        return Passed::Fault(Fault {
             number: 5,
             start: 5,
             size,
-        };
+        });
     }
     let at = lacking(entries, goals, rules);
     if at < size {
-        return Passed::Fault {
+        let start = 5 + at;
+        return Passed::Fault(Fault {
             number: 9,
-            start: 5 + at,
+            start,
             size: 2,
-        };
+        });
     }
     Passed::To { end, count: steps }
 }

@@ -12,8 +12,9 @@ use borrow.Author.Tests.{leb-true, leb-false, ltb-false, not-false, le-leb, le-l
 use Rattle.sets.specs.Sets.{any, _∈_}
 use Rattle.sets.proofs.Laws.{is-false, fails, by-test, any-intro}
 use Rattle.records.specs.Words.{ascending}
-use Rattle.records.specs.Records.{given, Fault, records, listOf, longest, most, judge, firstFrom, firstFault, negated}
+use Rattle.records.specs.Records.{given, records, listOf, longest, most, judge, firstFrom, firstFault, negated}
 use Rattle.records.specs.Answers.{code, found, Cut, AllCut}
+use Rattle.records.specs.declared.Fault.{Fault}
 use Rattle.records.specs.declared.Kind.{Kind}
 use Rattle.records.specs.declared.Found.{Found}
 use Rattle.records.proofs.Sections.{first-here, first-later}
@@ -28,15 +29,10 @@ found-fine none n m e = (refl, cc)
 found-fine (some f) n m e = let z : _≡_ {A = ℕ} 0 1 = cc in absurd (omega arith)
 
 -- An answer `Fault` says which fault it is.
-pub found-fault : (fault : Option Fault) (n number start size : ℕ) → found fault n ≡ Found.Fault number start size
-    → fault ≡ some (record { number = number; start = start; size = size })
+pub found-fault : (fault : Option Fault) (n : ℕ) (f : Fault) → found fault n ≡ Found.Fault f → fault ≡ some f
 unfolding found
-found-fault none n number start size e = let z : _≡_ {A = ℕ} 0 1 = cc in absurd (omega arith)
-found-fault (some f) n number start size e =
-    let number-is : f .number ≡ number = cc in
-    let start-is : f .start ≡ start = cc in
-    let size-is : f .size ≡ size = cc in
-    λ i. some (record { number = number-is i; start = start-is i; size = size-is i })
+found-fault none n f e = let z : _≡_ {A = ℕ} 0 1 = cc in absurd (omega arith)
+found-fault (some g) n f e = cc
 
 -- Two answers that meet the contract of `first_fault` are equal.
 pub found-unique : (fault : Option Fault) (n : ℕ) (x y : Found) → x ≡ found fault n → y ≡ found fault n → x ≡ y

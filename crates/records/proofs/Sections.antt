@@ -124,7 +124,7 @@ module _ (refuses : ℕ → List ℕ → Option ℕ) where
 
   module _ (section : List ℕ) (n at : ℕ) (r : List ℕ) (e : r ≡ recordOf (drop at section)) (h : at < length section) where
     -- a record that is refused is the answer
-    pub answer-fault : (k : ℕ) → refuses n r ≡ some k → answerFrom section n at ≡ Found.Fault k at (length r)
+    pub answer-fault : (k : ℕ) → refuses n r ≡ some k → answerFrom section n at ≡ Found.Fault (record { number = k; start = at; size = length r })
     unfolding answerFrom found
     answer-fault k refused = rw (records-at section at r e h, first-here n at r _ k refused)
 

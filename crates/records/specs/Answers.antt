@@ -8,7 +8,8 @@ use lib.Dec.{leb, ltb, eqb}
 use lib.ListN.{length, drop}
 use Rattle.sets.specs.Sets.{any, _∈_}
 use Rattle.records.specs.Words.{word, words, odd, ascending}
-use Rattle.records.specs.Records.{Fault, given, _orElse_, records, listsOf, listOf}
+use Rattle.records.specs.Records.{given, _orElse_, records, listsOf, listOf}
+use Rattle.records.specs.declared.Fault.{Fault}
 use Rattle.records.specs.declared.Marks.{Marks}
 use Rattle.records.specs.declared.Found.{Found}
 use Rattle.records.specs.declared.Kind.{Kind}
@@ -22,7 +23,7 @@ code (some k) = k
 -- the answer for a section: its first fault, or the number of its records
 unfoldable pub found : Option Fault → ℕ → Found
 found none n = Found.Fine n
-found (some f) n = Found.Fault (f .number) (f .start) (f .size)
+found (some f) n = Found.Fault f
 
 -- ---- the marks of a record's lists
 

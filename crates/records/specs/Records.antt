@@ -7,6 +7,7 @@ use lib.Dec.{leb, ltb, eqb}
 use lib.ListN.{length, take, drop, getD}
 use Rattle.sets.specs.Sets.{any}
 use Rattle.records.specs.Words.{word, words, odd, ascending}
+use Rattle.records.specs.declared.Fault.{Fault}
 use Rattle.records.specs.declared.Kind.{Kind}
 use Rattle.records.specs.declared.Kind.the-variants.{Clause, Rule, Goal}
 
@@ -22,12 +23,6 @@ given false x = none
 unfoldable pub _orElse_ {ℓ} : {A : Type ℓ} → Option A → Option A → Option A
 some x orElse y = some x
 none orElse y = y
-
--- a fault: 01's number, and the bytes at fault by their place and length
-pub record Fault : Type 0 where
-  pub number : ℕ
-  pub start : ℕ
-  pub size : ℕ
 
 -- ---- records
 

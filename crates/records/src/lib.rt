@@ -1,13 +1,10 @@
 // Reads records out of a lent section: where each starts, what is wrong with it, and the lists in it.
 ghost use mathlib.Core.Path.{_≡_};
-ghost use mathlib.Core.Bool.{not, _||_};
-ghost use mathlib.Core.Option.{some};
 ghost use Prim.Native.Nat.{_+_, _<_, _≤_};
-ghost use lib.Dec.{leb, ltb};
 ghost use lib.ListN.{length, drop};
 ghost use Rattle.sets.specs.Sets.{any, listed};
-ghost use Rattle.records.specs.Words.{word, words, ascending};
-ghost use Rattle.records.specs.Records.{recordOf, records, listOf, bare, judge, negated, firstFault, cutLists, cutClause, listsOf, longest, most};
+ghost use Rattle.records.specs.Words.{word, words};
+ghost use Rattle.records.specs.Records.{recordOf, records, bare, judge, negated, firstFault, cutLists, cutClause};
 ghost use Rattle.records.specs.Answers.{code, found, headIn, placeOf, Marked, picked, pickedOf, before, AllCut, Cut, listCount, ListBytes};
 
 // The three kinds of records.
@@ -17,14 +14,17 @@ pub enum Kind {
     Goal,
 }
 
-// What a section of records is: fine, with so many records, or at fault, with document 01's number and the bytes.
+// A fault: document 01's number, and the bytes at fault by their place and length.
+pub struct Fault {
+    pub number: u8,
+    pub start: usize,
+    pub size: usize,
+}
+
+// What a section of records is: fine, with so many records, or at fault.
 pub enum Found {
     Fine(usize),
-    Fault {
-        number: u8,
-        start: usize,
-        size: usize,
-    },
+    Fault(Fault),
 }
 
 // Which faults a record's lists have shown so far.
@@ -199,11 +199,11 @@ pub fn first_fault(section: &[u8], kind: Kind, facts: usize) -> Found
         let record = record_at(section, at);
         let number = record_number(record, kind, n, facts);
         if number != 0 {
-            return Found::Fault {
+            return Found::Fault(Fault {
                 number,
                 start: at,
                 size: record.len(),
-            };
+            });
         }
         at += record.len();
         n += 1;
@@ -285,11 +285,11 @@ pub fn first_negated(section: &[u8], kind: Kind, clauses: &[u8]) -> Found
     while at < section.len() {
         let record = record_at(section, at);
         if has_head(list_of(record, kind, 1), clauses) {
-            return Found::Fault {
+            return Found::Fault(Fault {
                 number: 8,
                 start: at,
                 size: record.len(),
-            };
+            });
         }
         at += record.len();
         n += 1;

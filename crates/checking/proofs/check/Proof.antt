@@ -38,33 +38,33 @@ roomy c = rw (le-ltb _ _ (c .before .if1 .left), le-ltb _ _ (c .if2 .left))
 pair-is-fine : (c : tie.After-layout) → let s = c .before .before .before .before .before .before .before .before .before in (pairFault (model s) (trace s) ≡ none) × (layoutOf (model s) ≡ c .layout .given .0 .0)
 pair-is-fine c = paired-fine _ _ _ (c .before .before .judge-pair .ensures) (c .layout .given .1)
 
-refuse-requires : tie.Need-refuse-requires
-refuse-requires c κs = search needs
+refuse-room-requires : tie.Need-refuse-room-requires
+refuse-room-requires c κs = search needs
 
 returns : tie.Need-returns
 unfolding noRoom
 returns c =
     let s = c .before .before .before .before .before .before in
-    checked-refused (model s) (trace s) (state s) (table s) _ (no-room (model s) (trace s) (state s) (table s) (rw (lt-ltb _ _ (c .before .if1 .taken))) ∙ ap {B = Option Verdict} some (sym (c .refuse .ensures)))
+    checked-refused (model s) (trace s) (state s) (table s) _ (no-room (model s) (trace s) (state s) (table s) (rw (lt-ltb _ _ (c .before .if1 .taken))) ∙ ap {B = Option Verdict} some (sym (c .refuse-room .ensures)))
 
-refuse-requires-2 : tie.Need-refuse-requires-2
-refuse-requires-2 c κs = search needs
+refuse-room-requires-2 : tie.Need-refuse-room-requires-2
+refuse-room-requires-2 c κs = search needs
 
 returns-2 : tie.Need-returns-2
 unfolding noRoom
 returns-2 c =
     let s = c .before .before .before .before .before .before .before in
     checked-refused (model s) (trace s) (state s) (table s) _
-    (no-room (model s) (trace s) (state s) (table s) (rw (le-ltb _ _ (c .before .before .if1 .left), lt-ltb _ _ (c .before .if2 .taken))) ∙ ap {B = Option Verdict} some (sym (c .refuse2 .ensures)))
+    (no-room (model s) (trace s) (state s) (table s) (rw (le-ltb _ _ (c .before .before .if1 .left), lt-ltb _ _ (c .before .if2 .taken))) ∙ ap {B = Option Verdict} some (sym (c .refuse-room2 .ensures)))
 
 judge-pair-requires : tie.Need-judge-pair-requires
 judge-pair-requires c κs = search needs
 
-enum-known-number : tie.Need-enum-known-number
-enum-known-number c = search needs
+enum-known-mark : tie.Need-enum-known-mark
+enum-known-mark c = search needs
 
-refuse-requires-3 : tie.Need-refuse-requires-3
-refuse-requires-3 c κs = search needs
+refuse-requires : tie.Need-refuse-requires
+refuse-requires c κs = search needs
 
 enum-known-layout : tie.Need-enum-known-layout
 enum-known-layout c = search needs
@@ -78,8 +78,8 @@ returns-3 : tie.Need-returns-3
 returns-3 c =
     let judged = c .before .before .before .before in
     let s = judged .before .before .before .before .before .before .before in
-    checked-blamed (model s) (trace s) (state s) (table s) (roomy (judged .before)) _ _ _ _ _
-    (paired-fault _ _ _ _ _ _ (judged .judge-pair .ensures) (c .before .before .number .given .1)) (c .refuse3 .ensures)
+    checked-blamed (model s) (trace s) (state s) (table s) (roomy (judged .before)) _ _ _
+    (paired-fault _ _ _ _ (judged .judge-pair .ensures) (c .before .before .mark .given .1)) (c .refuse .ensures)
 
 same-length : tie.Need-same-length
 same-length c = search needs
@@ -99,13 +99,13 @@ pub check-spec : {M : Type 1} → statement M
 check-spec =
     tie.close
     (tie.spec
-    refuse-requires
+    refuse-room-requires
     returns
-    refuse-requires-2
+    refuse-room-requires-2
     returns-2
     judge-pair-requires
-    enum-known-number
-    refuse-requires-3
+    enum-known-mark
+    refuse-requires
     enum-known-layout
     run-requires
     returns-3

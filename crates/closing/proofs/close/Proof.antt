@@ -49,8 +49,8 @@ returns-2 c =
 judge-model-requires : tie.Need-judge-model-requires
 judge-model-requires c κs = search needs
 
-enum-known-number : tie.Need-enum-known-number
-enum-known-number c = search needs
+enum-known-fault : tie.Need-enum-known-fault
+enum-known-fault c = search needs
 
 enum-known-layout : tie.Need-enum-known-layout
 enum-known-layout c = search needs
@@ -64,7 +64,7 @@ returns-3 : tie.Need-returns-3
 returns-3 c =
     let judged = c .before .before .before in
     let s = judged .before .before .before .before .before .before in
-    model-refused (model s) (state s) (table s) _ (roomy (judged .before)) (judged-fault _ _ _ _ _ (judged .judge-model .ensures) (c .before .number .given .1))
+    model-refused (model s) (state s) (table s) _ (roomy (judged .before)) (judged-fault _ _ _ (judged .judge-model .ensures) (c .before .fault .given .1))
 
 same-length : tie.Need-same-length
 same-length c = search needs
@@ -83,7 +83,7 @@ close-spec =
     returns
     returns-2
     judge-model-requires
-    enum-known-number
+    enum-known-fault
     enum-known-layout
     close-shaped-requires
     returns-3

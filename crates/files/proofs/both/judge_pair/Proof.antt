@@ -1,6 +1,6 @@
 -- `both::judge_pair` meets its contract: its tests and calls follow the pair's fault, in the same order.
 use Prim.Native.Nat.{ℕ}
-use mathlib.Core.Path.{_≡_, sym, _∙_}
+use mathlib.Core.Path.{_≡_, sym}
 use mathlib.Core.List.{List}
 use mathlib.Core.Option.{Option, none, Option·map}
 use borrow.Author.Needs.{needs}
@@ -35,24 +35,24 @@ head-number-requires c κs = search needs
 head-number-requires-2 : tie.Need-head-number-requires-2
 head-number-requires-2 c κs = search needs
 
-head-fault-requires : tie.Need-head-fault-requires
-head-fault-requires c κs = search needs
+long-fault-requires : tie.Need-long-fault-requires
+long-fault-requires c κs = search needs
 
 returns : tie.Need-returns
 unfolding pairFault _orElse_ paired
-returns c = c .head-fault .ensures ∙ rw (model-head (c .before .before) .two (c .before .if1 .taken))
+returns c = rw (c .long-fault .ensures, model-head (c .before .before) .two (c .before .if1 .taken))
 
-head-fault-requires-2 : tie.Need-head-fault-requires-2
-head-fault-requires-2 c κs = search needs
+long-fault-requires-2 : tie.Need-long-fault-requires-2
+long-fault-requires-2 c κs = search needs
 
 returns-2 : tie.Need-returns-2
 unfolding pairFault _orElse_ paired
 returns-2 c =
     let e = c .before .before in
-    c .head-fault2 .ensures ∙ rw (model-head (e .before) .not-two (e .if1 .left), trace-head (e .before) .two (c .before .if2 .taken))
+    rw (c .long-fault2 .ensures, model-head (e .before) .not-two (e .if1 .left), trace-head (e .before) .two (c .before .if2 .taken))
 
-head-fault-requires-3 : tie.Need-head-fault-requires-3
-head-fault-requires-3 c κs = search needs
+version-fault-requires : tie.Need-version-fault-requires
+version-fault-requires c κs = search needs
 
 -- both files are short enough
 sizes : (c : tie.Else2) → (tooLong 65536 (model-of (c .before .before)) ≡ none) × (tooLong 4096 (trace-of (c .before .before)) ≡ none)
@@ -62,10 +62,10 @@ returns-3 : tie.Need-returns-3
 unfolding pairFault _orElse_ paired
 returns-3 c =
     let e = c .before .before in
-    c .head-fault3 .ensures ∙ rw (sizes e .0, sizes e .1, model-head (e .before .before) .three (c .before .if3 .taken) .1)
+    rw (c .version-fault .ensures, sizes e .0, sizes e .1, model-head (e .before .before) .three (c .before .if3 .taken) .1)
 
-head-fault-requires-4 : tie.Need-head-fault-requires-4
-head-fault-requires-4 c κs = search needs
+version-fault-requires-2 : tie.Need-version-fault-requires-2
+version-fault-requires-2 c κs = search needs
 
 -- the model's version is right
 version : (c : tie.Else3) → wrongVersion (model-of (c .before .before .before)) ≡ none
@@ -75,7 +75,7 @@ returns-4 : tie.Need-returns-4
 unfolding pairFault _orElse_ paired
 returns-4 c =
     let e = c .before .before in
-    c .head-fault4 .ensures ∙ rw (sizes (e .before) .0, sizes (e .before) .1, version e, trace-head (e .before .before .before) .three (c .before .if4 .taken) .1)
+    rw (c .version-fault2 .ensures, sizes (e .before) .0, sizes (e .before) .1, version e, trace-head (e .before .before .before) .three (c .before .if4 .taken) .1)
 
 -- ---- what comes after size and version
 
@@ -98,8 +98,8 @@ passed-heads c =
 judge-shape-requires : tie.Need-judge-shape-requires
 judge-shape-requires c κs = search needs
 
-enum-known-number : tie.Need-enum-known-number
-enum-known-number c = search needs
+enum-known-fault : tie.Need-enum-known-fault
+enum-known-fault c = search needs
 
 enum-known-layout : tie.Need-enum-known-layout
 enum-known-layout c = search needs
@@ -114,8 +114,8 @@ shape c = judged-fine _ _ _ (c .before .before .judge-shape .ensures) (c .layout
 judge-negated-requires : tie.Need-judge-negated-requires
 judge-negated-requires c κs = let (fine, layout) = shape (c .before) in record { fine = fine; layout = sym layout }
 
-enum-known-number-2 : tie.Need-enum-known-number-2
-enum-known-number-2 c = search needs
+enum-known-fault-2 : tie.Need-enum-known-fault-2
+enum-known-fault-2 c = search needs
 
 enum-told : tie.Need-enum-told
 enum-told c = search needs
@@ -123,8 +123,8 @@ enum-told c = search needs
 judge-trace-requires : tie.Need-judge-trace-requires
 judge-trace-requires c κs = search needs
 
-enum-known-number-3 : tie.Need-enum-known-number-3
-enum-known-number-3 c = search needs
+enum-known-fault-3 : tie.Need-enum-known-fault-3
+enum-known-fault-3 c = search needs
 
 enum-told-2 : tie.Need-enum-told-2
 enum-told-2 c = search needs
@@ -134,7 +134,7 @@ unfolding bodies _orElse_ paired
 returns-5 c =
     let n = c .before in
     let j = n .before .before in
-    rw (passed-heads (j .before), judged-fault _ _ _ _ _ (j .judge-shape .ensures) (n .number .given .1))
+    rw (passed-heads (j .before), judged-fault _ _ _ (j .judge-shape .ensures) (n .fault .given .1))
 
 returns-6 : tie.Need-returns-6
 unfolding bodies _orElse_ paired
@@ -142,7 +142,7 @@ returns-6 c =
     let n = c .before in
     let j = n .before .before in
     let l = j .before .before in
-    rw (passed-heads (shaped-of l), shape l .0, judged-fault _ _ _ _ _ (j .judge-negated .ensures) (n .number2 .given .1))
+    rw (passed-heads (shaped-of l), shape l .0, judged-fault _ _ _ (j .judge-negated .ensures) (n .fault2 .given .1))
 
 -- a second answer `Fine`, and the trace's fault is left
 passed-model : (c : tie.After-enum-told)
@@ -160,7 +160,7 @@ unfolding paired
 returns-7 c =
     let n = c .before in
     let j = n .before .before in
-    rw (passed-model (j .before), passed-fault _ _ _ _ _ _ (j .judge-trace .ensures) (n .number3 .given .1))
+    rw (passed-model (j .before), passed-fault _ _ _ _ (j .judge-trace .ensures) (n .fault3 .given .1))
 
 returns-8 : tie.Need-returns-8
 unfolding paired
@@ -175,22 +175,22 @@ judge-pair-spec =
     (tie.spec
     head-number-requires
     head-number-requires-2
-    head-fault-requires
+    long-fault-requires
     returns
-    head-fault-requires-2
+    long-fault-requires-2
     returns-2
-    head-fault-requires-3
+    version-fault-requires
     returns-3
-    head-fault-requires-4
+    version-fault-requires-2
     returns-4
     judge-shape-requires
-    enum-known-number
+    enum-known-fault
     enum-known-layout
     judge-negated-requires
-    enum-known-number-2
+    enum-known-fault-2
     enum-told
     judge-trace-requires
-    enum-known-number-3
+    enum-known-fault-3
     enum-told-2
     returns-5
     returns-6

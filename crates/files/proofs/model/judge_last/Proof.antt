@@ -26,8 +26,8 @@ goals-past c =
 records-section-requires : tie.Need-records-section-requires
 records-section-requires c κs = search needs
 
-enum-known-number : tie.Need-enum-known-number
-enum-known-number c = search needs
+enum-known-fault : tie.Need-enum-known-fault
+enum-known-fault c = search needs
 
 enum-known-goals : tie.Need-enum-known-goals
 enum-known-goals c = search needs
@@ -35,14 +35,14 @@ enum-known-goals c = search needs
 records-section-requires-2 : tie.Need-records-section-requires-2
 records-section-requires-2 c κs = search needs
 
-enum-known-number-2 : tie.Need-enum-known-number-2
-enum-known-number-2 c = search needs
+enum-known-fault-2 : tie.Need-enum-known-fault-2
+enum-known-fault-2 c = search needs
 
 enum-known-end : tie.Need-enum-known-end
 enum-known-end c = search needs
 
-sub-t25 : tie.Need-sub-t25
-sub-t25 c = search needs
+sub-size : tie.Need-sub-size
+sub-size c = search needs
 
 returns : tie.Need-returns
 returns c =
@@ -58,7 +58,7 @@ returns-2 c =
     let begun = asked .before .before .pre in
     judged-some _ _ _
     (begun-fault _ begun
-    ∙ or-first _ _ _ (section-refused _ (judging kind.Rule) 3 (begun .rules-at) (begun .facts-are) _ (asked .records-section .ensures) (c .before .number .given .1)))
+    ∙ or-first _ _ _ (section-refused _ (judging kind.Rule) 3 (begun .rules-at) (begun .facts-are) _ (asked .records-section .ensures) (c .before .fault .given .1)))
 
 returns-3 : tie.Need-returns-3
 returns-3 c =
@@ -68,7 +68,7 @@ returns-3 c =
     judged-some _ _ _
     (begun-fault _ begun
     ∙ or-next _ _ (rules-past rules .fine)
-    ∙ or-first _ _ _ (section-refused _ (judging kind.Goal) 4 (rules-past rules .ends) (begun .facts-are) _ (asked .records-section2 .ensures) (c .before .number2 .given .1)))
+    ∙ or-first _ _ _ (section-refused _ (judging kind.Goal) 4 (rules-past rules .ends) (begun .facts-are) _ (asked .records-section2 .ensures) (c .before .fault2 .given .1)))
 
 returns-4 : tie.Need-returns-4
 returns-4 c =
@@ -86,12 +86,12 @@ judge-last-spec =
     tie.close
     (tie.spec
     records-section-requires
-    enum-known-number
+    enum-known-fault
     enum-known-goals
     records-section-requires-2
-    enum-known-number-2
+    enum-known-fault-2
     enum-known-end
-    sub-t25
+    sub-size
     returns
     returns-2
     returns-3

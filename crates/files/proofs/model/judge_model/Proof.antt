@@ -20,18 +20,21 @@ shape-fine c = judged-fine _ _ _ (c .before .before .judge-shape .ensures) (c .l
 head-number-requires : tie.Need-head-number-requires
 head-number-requires c κs = search needs
 
+long-fault-requires : tie.Need-long-fault-requires
+long-fault-requires c κs = search needs
+
 returns : tie.Need-returns
 unfolding modelFault
-returns c = rw (c .if1 .taken) (judged-some _ _ _ (or-first _ _ _ (head (c .before) .two (c .if1 .taken))))
+returns c = rw (c .long-fault .ensures) (judged-some _ _ _ (or-first _ _ _ (head (c .before .before) .two (c .before .if1 .taken))))
 
-first-byte-requires : tie.Need-first-byte-requires
-first-byte-requires c κs = search needs
+version-fault-requires : tie.Need-version-fault-requires
+version-fault-requires c κs = search needs
 
 returns-2 : tie.Need-returns-2
 unfolding modelFault
 returns-2 c =
     let (fits, wrong) = head (c .before .before .before) .three (c .before .if2 .taken) in
-    rw (c .before .if2 .taken, c .first-byte .ensures) (judged-some _ _ _ (or-next _ _ fits ∙ or-first _ _ _ wrong))
+    rw (c .version-fault .ensures) (judged-some _ _ _ (or-next _ _ fits ∙ or-first _ _ _ wrong))
 
 judge-shape-requires : tie.Need-judge-shape-requires
 judge-shape-requires c κs = search needs
@@ -42,8 +45,8 @@ enum-known-layout c = search needs
 judge-negated-requires : tie.Need-judge-negated-requires
 judge-negated-requires c κs = let (fine, same) = shape-fine (c .before) in record { fine = fine; layout = sym same }
 
-enum-known-number : tie.Need-enum-known-number
-enum-known-number c = search needs
+enum-known-fault : tie.Need-enum-known-fault
+enum-known-fault c = search needs
 
 returns-3 : tie.Need-returns-3
 unfolding modelFault
@@ -60,19 +63,20 @@ returns-4 c =
     let test = shape .before in
     let (fits, version) = head (test .before .before) .other (test .before .if1 .left) (test .if2 .left) in
     judged-some _ _ _
-    (or-next _ _ fits ∙ or-next _ _ version ∙ or-first _ _ _ (judged-fault _ _ _ _ _ (shape .judge-shape .ensures) (c .before .number .given .1)))
+    (or-next _ _ fits ∙ or-next _ _ version ∙ or-first _ _ _ (judged-fault _ _ _ (shape .judge-shape .ensures) (c .before .fault .given .1)))
 
 pub judge-model-spec : {M : Type 1} → statement M
 judge-model-spec =
     tie.close
     (tie.spec
     head-number-requires
+    long-fault-requires
     returns
-    first-byte-requires
+    version-fault-requires
     returns-2
     judge-shape-requires
     enum-known-layout
     judge-negated-requires
-    enum-known-number
+    enum-known-fault
     returns-3
     returns-4)

@@ -35,8 +35,8 @@ negated-section-requires c κs =
     let shape = c .before .before .before .before .pre in
     rw (c .before .rules .ensures, c .before .before .clauses .ensures, shape .layout) (negated-asks _ (shape .fine) 3 (lit< tt) kind.Rule (lit< tt) (shaped _ (shape .fine) .rules))
 
-enum-known-number : tie.Need-enum-known-number
-enum-known-number c = search needs
+enum-known-fault : tie.Need-enum-known-fault
+enum-known-fault c = search needs
 
 enum-told : tie.Need-enum-told
 enum-told c = search needs
@@ -71,7 +71,7 @@ goals-answer c =
 
 returns : tie.Need-returns
 unfolding negatedFault
-returns c = judged-some _ _ _ (or-first _ _ _ (judged-fault _ _ _ _ _ (rules-answer (c .before .before .before)) (c .before .number .given .1)))
+returns c = judged-some _ _ _ (or-first _ _ _ (judged-fault _ _ _ (rules-answer (c .before .before .before)) (c .before .fault .given .1)))
 
 returns-2 : tie.Need-returns-2
 unfolding negatedFault
@@ -87,7 +87,7 @@ judge-negated-spec =
     rules-requires
     goals-requires
     negated-section-requires
-    enum-known-number
+    enum-known-fault
     enum-told
     negated-section-requires-2
     returns

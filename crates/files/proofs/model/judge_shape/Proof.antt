@@ -4,7 +4,7 @@ use mathlib.Core.Path.{_≡_, refl, _∙_}
 use mathlib.Core.List.{List}
 use mathlib.Core.Option.{Option}
 use denote.Ref.{now}
-use Rattle.records.specs.Records.{Fault}
+use Rattle.records.specs.declared.Fault.{Fault}
 use Rattle.records.specs.declared.Kind.the-variants as kind
 use Rattle.files.specs.Sections.{sectionAt}
 use Rattle.files.specs.Files.{factCount, sizes, numbers, shapeFault}
@@ -52,15 +52,15 @@ sizes-section-requires c κs = search needs
 enum-known-end : tie.Need-enum-known-end
 enum-known-end c = search needs
 
-enum-known-number : tie.Need-enum-known-number
-enum-known-number c = search needs
+enum-known-fault : tie.Need-enum-known-fault
+enum-known-fault c = search needs
 
 returns : tie.Need-returns
 unfolding shapeFault
 returns c =
     let asked = c .before .before .before in
     let file = now (asked .before .before .args .model) in
-    judged-some _ _ _ (or-first _ _ _ (section-refused file sizing 0 (first-at file) refl _ (asked .sizes-section .ensures) (c .before .number .given .1)))
+    judged-some _ _ _ (or-first _ _ _ (section-refused file sizing 0 (first-at file) refl _ (asked .sizes-section .ensures) (c .before .fault .given .1)))
 
 word-at-requires : tie.Need-word-at-requires
 word-at-requires c κs = sizes-there _ (sizes-past (c .before) .fine)
@@ -71,8 +71,8 @@ numbers-section-requires c κs = search needs
 enum-known-end-2 : tie.Need-enum-known-end-2
 enum-known-end-2 c = search needs
 
-enum-known-number-2 : tie.Need-enum-known-number-2
-enum-known-number-2 c = search needs
+enum-known-fault-2 : tie.Need-enum-known-fault-2
+enum-known-fault-2 c = search needs
 
 returns-2 : tie.Need-returns-2
 unfolding shapeFault
@@ -82,7 +82,7 @@ returns-2 c =
     let sized = sizes-past (word .before .before) in
     judged-some _ _ _
     (or-next _ _ (sized .fine)
-    ∙ or-first _ _ _ (section-refused _ numbers 1 (sized .ends) (facts-known word) _ (asked .numbers-section .ensures) (c .before .number2 .given .1)))
+    ∙ or-first _ _ _ (section-refused _ numbers 1 (sized .ends) (facts-known word) _ (asked .numbers-section .ensures) (c .before .fault2 .given .1)))
 
 records-section-requires : tie.Need-records-section-requires
 records-section-requires c κs = search needs
@@ -90,8 +90,8 @@ records-section-requires c κs = search needs
 enum-known-end-3 : tie.Need-enum-known-end-3
 enum-known-end-3 c = search needs
 
-enum-known-number-3 : tie.Need-enum-known-number-3
-enum-known-number-3 c = search needs
+enum-known-fault-3 : tie.Need-enum-known-fault-3
+enum-known-fault-3 c = search needs
 
 returns-3 : tie.Need-returns-3
 unfolding shapeFault
@@ -102,7 +102,7 @@ returns-3 c =
     judged-some _ _ _
     (or-next _ _ (sizes-past (word .before .before) .fine)
     ∙ or-next _ _ (initial-past initial .fine)
-    ∙ or-first _ _ _ (section-refused _ (judging kind.Clause) 2 (initial-past initial .ends) (facts-known word) _ (asked .records-section .ensures) (c .before .number3 .given .1)))
+    ∙ or-first _ _ _ (section-refused _ (judging kind.Clause) 2 (initial-past initial .ends) (facts-known word) _ (asked .records-section .ensures) (c .before .fault3 .given .1)))
 
 judge-last-requires : tie.Need-judge-last-requires
 judge-last-requires c κs =
@@ -129,16 +129,16 @@ judge-shape-spec =
     (tie.spec
     sizes-section-requires
     enum-known-end
-    enum-known-number
+    enum-known-fault
     returns
     word-at-requires
     numbers-section-requires
     enum-known-end-2
-    enum-known-number-2
+    enum-known-fault-2
     returns-2
     records-section-requires
     enum-known-end-3
-    enum-known-number-3
+    enum-known-fault-3
     returns-3
     judge-last-requires
     returns-4)

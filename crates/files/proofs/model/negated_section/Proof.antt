@@ -19,21 +19,21 @@ first-negated-requires c κs = search needs
 enum-told : tie.Need-enum-told
 enum-told c = search needs
 
-enum-known-number : tie.Need-enum-known-number
-enum-known-number c = search needs
+enum-known-fault : tie.Need-enum-known-fault
+enum-known-fault c = search needs
 
-add-t11 : tie.Need-add-t11
-add-t11 c = search needs
+add-by : tie.Need-add-by
+add-by c = search needs
 
 -- the fault, where one was found
-read-fault : (c : tie.After-number)
+read-fault : (c : tie.After-fault)
     → let args = c .before .before .before .before .before .args in
     firstFault (negated (args .kind) (headIn (now (args .clauses)))) (now (args .section))
-    ≡ some (record { number = c .number .given .0 .0; start = c .number .given .0 .1 .0; size = c .number .given .0 .1 .1 .0 })
-read-fault c = found-fault _ _ _ _ _ (sym (c .before .before .first-negated .ensures) ∙ c .number .given .1)
+    ≡ some (c .fault .given .0 .0)
+read-fault c = found-fault _ _ _ (sym (c .before .before .first-negated .ensures) ∙ c .fault .given .1)
 
-add-t12 : tie.Need-add-t12
-add-t12 c = omega (arith, fault-within _ _ _ (read-fault (c .before)))
+add-start : tie.Need-add-start
+add-start c = omega (arith, fault-within _ _ _ (read-fault (c .before .before)))
 
 returns : tie.Need-returns
 unfolding judged
@@ -41,9 +41,9 @@ returns c = rw (found-fine _ _ _ (sym (c .before .before .first-negated .ensures
 
 returns-2 : tie.Need-returns-2
 unfolding judged moved
-returns-2 c = rw (read-fault (c .before))
+returns-2 c = rw (read-fault (c .before .before))
 
 pub negated-section-spec : {M : Type 1} → statement M
 negated-section-spec =
     tie.close
-    (tie.spec first-negated-requires enum-told enum-known-number add-t11 add-t12 returns returns-2)
+    (tie.spec first-negated-requires enum-told enum-known-fault add-by add-start returns returns-2)

@@ -6,10 +6,11 @@ use mathlib.Core.Option.{Option, some}
 use native.Mathlib.Omega.{arith}
 use lib.ListN.{length}
 use denote.Ref.{now}
-use Rattle.records.specs.Records.{Fault, records, firstFault, judge}
+use Rattle.records.specs.Records.{records, firstFault, judge}
+use Rattle.records.specs.declared.Fault.{Fault}
 use Rattle.records.specs.Answers.{found}
 use Rattle.records.proofs.Laws.{found-fine, found-fault}
-use Rattle.files.specs.Sections.{payload}
+use Rattle.files.specs.Sections.{payload, moved}
 use Rattle.files.proofs.Parts.{Ended, some-end, ended-bytes, ended-size, unfit-answer, fine-answer, fault-answer, fault-within}
 use borrow.Author.Needs.{needs}
 use Rattle.files.proofs.sections.records_section.Statement.{statement}
@@ -46,8 +47,8 @@ first-fault-requires c κs = search needs
 enum-known-count : tie.Need-enum-known-count
 enum-known-count c = search needs
 
-enum-known-number : tie.Need-enum-known-number
-enum-known-number c = search needs
+enum-known-fault : tie.Need-enum-known-fault
+enum-known-fault c = search needs
 
 -- the section's bytes
 abbrev bytes : tie.Else1 → List ℕ
@@ -62,14 +63,14 @@ read : (c : tie.After-first-fault) → c .first-fault .result ≡ found (fault (
 read c = rw (ended-bytes _ _ _ (ended (c .before .before))) at (c .first-fault .ensures)
 
 -- the fault, where one was found
-read-fault : (c : tie.After-number)
-    → fault (c .before .before .before .before) ≡ some (record { number = c .number .given .0 .0; start = c .number .given .0 .1 .0; size = c .number .given .0 .1 .1 .0 })
-read-fault c = found-fault _ _ _ _ _ (sym (read (c .before .before)) ∙ c .number .given .1)
+read-fault : (c : tie.After-fault)
+    → fault (c .before .before .before .before) ≡ some (c .fault .given .0 .0)
+read-fault c = found-fault _ _ _ (sym (read (c .before .before)) ∙ c .fault .given .1)
 
-add-t18 : tie.Need-add-t18
-add-t18 c =
-    let test = c .before .before .before .before .before in
-    omega (arith, ended test, ended-size _ _ _ (ended test), fault-within _ _ _ (read-fault (c .before)))
+add-start : tie.Need-add-start
+add-start c =
+    let test = c .before .before .before .before .before .before in
+    omega (arith, ended test, ended-size _ _ _ (ended test), fault-within _ _ _ (read-fault (c .before .before)))
 
 returns-2 : tie.Need-returns-2
 returns-2 c =
@@ -78,7 +79,8 @@ returns-2 c =
     rw (fine .1) (fine-answer _ _ _ _ _ (ended test) (fine .0))
 
 returns-3 : tie.Need-returns-3
-returns-3 c = fault-answer _ _ _ _ _ _ (ended (c .before .before .before .before .before)) (read-fault (c .before))
+unfolding moved
+returns-3 c = fault-answer _ _ _ _ _ _ (ended (c .before .before .before .before .before .before)) (read-fault (c .before .before))
 
 pub records-section-spec : {M : Type 1} → statement M
 records-section-spec =
@@ -93,7 +95,7 @@ records-section-spec =
     part-first-fault-end
     first-fault-requires
     enum-known-count
-    enum-known-number
-    add-t18
+    enum-known-fault
+    add-start
     returns-2
     returns-3)

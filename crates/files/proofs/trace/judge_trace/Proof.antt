@@ -69,8 +69,8 @@ returns-4 c =
 lacking-requires : tie.Need-lacking-requires
 lacking-requires c κs = search needs
 
-add-t16 : tie.Need-add-t16
-add-t16 c = search needs
+add-start : tie.Need-add-start
+add-start c = search needs
 
 -- what is known once only the names are left
 counted : (c : tie.Else5) → let e = c .before .before .before .before .before in Counted (file e) (e .before .section-end .result) (take (e .before .section-end .result - 5) (drop 5 (file e)))
@@ -101,6 +101,6 @@ judge-trace-spec =
     sub-steps
     returns-4
     lacking-requires
-    add-t16
+    add-start
     returns-5
     returns-6)

@@ -20,7 +20,7 @@ extern "C" {
 /* The verdict's numbers. */
 enum {
     CANTIVOREX_ATTACK = 0,   /* accepted */
-    CANTIVOREX_ROOM = 1,     /* a buffer is too short; nothing is changed */
+    CANTIVOREX_ROOM = 1,     /* a buffer is too short; state and table stay */
     CANTIVOREX_LONG = 2,     /* a file is over its size: 65,536 bytes for a model, 4,096 for a trace */
     CANTIVOREX_VERSION = 3,  /* a file is empty, or its first byte is not 1 */
     CANTIVOREX_SHAPE = 4,    /* a length or count does not fit, something is too short, bytes are left over */
@@ -33,11 +33,11 @@ enum {
     CANTIVOREX_NOATTACK = 11 /* all steps fire, and the goal is not met */
 };
 
-/* What each call needs at least. */
+/* What the buffers need at least. */
 enum {
     CANTIVOREX_STATE_BYTES = 512,
     CANTIVOREX_TABLE_ENTRIES = 4096,
-    CANTIVOREX_OUT_ENTRIES = 8
+    CANTIVOREX_OUT_ENTRIES = 8 /* of a check; closing needs one */
 };
 
 /* Where a verdict's values stand in `out`. */

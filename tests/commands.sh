@@ -147,24 +147,33 @@ test_unread_files() {
     done
 }
 
-# A read of the system's that moves few bytes at a time, and one that fails midway: the line is the same, or there is none.
-test_odd_reads() {
+# A read of the system's that moves few bytes at a time, and a read or a write that fails midway: the line is the same, or it is told.
+test_odd_calls() {
     cat >"$tmp/odd.c" <<'CODE'
 #include <errno.h>
 #include <stdlib.h>
 #include <sys/syscall.h>
 #include <unistd.h>
 
+/* Whether this is the call whose number the variable gives. */
+static int fails(const char *variable, int call) {
+    if (!getenv(variable) || call != atoi(getenv(variable)))
+        return 0;
+    errno = EIO;
+    return 1;
+}
+
 ssize_t read(int fd, void *to, size_t most) {
     static int calls;
-    if (getenv("FAIL_AT") && ++calls == atoi(getenv("FAIL_AT"))) {
-        errno = EIO;
-        return -1;
-    }
-    return syscall(SYS_read, fd, to, most < 7 ? most : 7);
+    return fails("FAIL_AT", ++calls) ? -1 : syscall(SYS_read, fd, to, most < 7 ? most : 7);
+}
+
+ssize_t write(int fd, const void *from, size_t size) {
+    static int calls;
+    return fd == 1 && fails("FAIL_WRITE", ++calls) ? -1 : syscall(SYS_write, fd, from, size);
 }
 CODE
-    gcc -shared -fPIC -o "$tmp/odd.so" "$tmp/odd.c" || { same 'the odd reads are compiled' yes no; return; }
+    gcc -shared -fPIC -o "$tmp/odd.so" "$tmp/odd.c" || { same 'the odd calls are compiled' yes no; return; }
     new_case
     cp "$desk" "$tmp/case/case.model"
     cp "$root/samples/B.trace" "$tmp/case/case.trace"
@@ -173,6 +182,9 @@ CODE
     same 'the model fails midway' 'case.model: Input/output error' "$(cd "$tmp/case" && FAIL_AT=5 LD_PRELOAD=$tmp/odd.so "$program" 2>&1)"
     same 'the model fails at its end' 'case.model: Input/output error' "$(cd "$tmp/case" && FAIL_AT=16 LD_PRELOAD=$tmp/odd.so "$program" 2>&1)"
     same 'the trace fails midway' 'case.trace: Input/output error' "$(cd "$tmp/case" && FAIL_AT=18 LD_PRELOAD=$tmp/odd.so "$program" 2>&1)"
+    # the name, " step " and 1 are written; the fourth write is " fact "
+    same 'the line fails midway' "BLOCKED step 1the verdict's line: Input/output error" "$(cd "$tmp/case" && FAIL_WRITE=4 LD_PRELOAD=$tmp/odd.so "$program" 2>&1)"
+    same 'the line has no end' "the verdict's line: Input/output error" "$(cd "$tmp/case" && FAIL_WRITE=10 LD_PRELOAD=$tmp/odd.so "$program" 2>&1 >/dev/null)"
 }
 
 # Zeros after the last section: not too long up to the bound, where the bytes left over are the fault.
@@ -325,7 +337,7 @@ test_samples
 test_small_models
 test_missing_files
 test_unread_files
-test_odd_reads
+test_odd_calls
 test_sizes
 test_command
 test_building

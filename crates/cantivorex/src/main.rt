@@ -63,10 +63,9 @@ fn load(path: &[u8], buffer: &mut [u8]) -> Loaded
     loaded
 }
 
-// A word of the line and the number after it.
-fn print_value(word: &[u8], n: usize) {
-    io::write_all(STDOUT_FILENO, word);
-    io::print_decimal(STDOUT_FILENO, n as u64);
+// A word of the line and the number after it. This and the other parts of the line answer whether they were written.
+fn print_value(word: &[u8], n: usize) -> bool {
+    io::write_all(STDOUT_FILENO, word) && io::print_decimal(STDOUT_FILENO, n as u64)
 }
 
 // The verdict's name in document 01's table.
@@ -87,21 +86,21 @@ fn print_name(number: u8) -> bool {
     }
 }
 
-fn print_fact(fact: usize) {
+fn print_fact(fact: usize) -> bool {
     if fact == 65535 {
-        io::write_all(STDOUT_FILENO, b" fact none");
-        return;
+        return io::write_all(STDOUT_FILENO, b" fact none");
     }
-    print_value(b" fact ", fact);
+    print_value(b" fact ", fact)
 }
 
 fn print_line(v: Verdict) {
-    print_name(v.number);
-    print_value(b" step ", v.step);
-    print_fact(v.fact);
-    print_value(b" rounds ", v.rounds);
-    print_value(b" held ", v.held);
-    if !io::write_all(STDOUT_FILENO, b"\n") {
+    let whole = print_name(v.number)
+        && print_value(b" step ", v.step)
+        && print_fact(v.fact)
+        && print_value(b" rounds ", v.rounds)
+        && print_value(b" held ", v.held)
+        && io::write_all(STDOUT_FILENO, b"\n");
+    if !whole {
         os::fail(b"the verdict's line");
     }
 }

@@ -13,8 +13,7 @@ use Rattle.meaning.specs.Model.{Model}
 use Rattle.meaning.specs.Run.{Outcome}
 use Rattle.meaning.specs.Promises.{Ends}
 use Rattle.meaning.specs.Promises.Ends.{attack, blocked, notMet}
-use Rattle.records.specs.Records.{records}
-use Rattle.records.specs.Answers.{placeOf}
+use Rattle.records.specs.Records.{records, placeOf}
 use Rattle.records.proofs.Places.{place-le}
 use Rattle.files.specs.Files.Blamed.{model, trace}
 use Rattle.files.specs.Files.{Blamed, section, modelOf, traceOf, pairFault}

@@ -15,8 +15,8 @@ use Rattle.meaning.specs.Rounds.{rounds}
 use Rattle.meaning.proofs.Theorems.{rounds-bound, missingHeads-bound}
 use Rattle.facts.proofs.Laws.{below-or-from}
 use Rattle.records.specs.Words.{word}
-use Rattle.records.specs.Records.{recordOf, records, whole, cut, listsOf, listOf, judge, firstFault}
-use Rattle.records.specs.Answers.{AllCut, Cut, placeOf}
+use Rattle.records.specs.Records.{recordOf, records, whole, cut, listsOf, listOf, judge, firstFault, placeOf}
+use Rattle.records.specs.Contracts.{Cut, AllCut}
 use Rattle.records.specs.declared.Kind.{Kind}
 use Rattle.records.specs.declared.Kind.the-variants as kind
 use Rattle.records.proofs.Laws.{judged-cut, judged-facts}

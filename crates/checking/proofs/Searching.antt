@@ -21,7 +21,7 @@ use Rattle.files.specs.Files.{section, clausesIn, modelOf, traceOf}
 use Rattle.closing.specs.Closing.{Filled}
 use Rattle.checking.specs.Stepping.{Known}
 use Rattle.checking.specs.Verdict.{outcome, Left}
-use Rattle.records.specs.Answers.{listCount}
+use Rattle.records.specs.Contracts.{listCount}
 use Rattle.sets.proofs.Laws.{by-test}
 use Rattle.checking.specs.Running.{Begun, EndsAt, numberOf, kindAt}
 use Rattle.checking.specs.declared.running.Ended.{Ended}
@@ -91,7 +91,7 @@ pub left-from : {M : Model} {o : Outcome} {state state₁ state' table table₁ 
 left-from k n b l = record {
   facts = l .facts;
   kept = kept-trans k (l .kept);
-  rounds = record { length = l .rounds .length ∙ n; entries = l .rounds .entries; beyond = l .rounds .beyond ∙ b };
+  rounds = record { as-long = l .rounds .as-long ∙ n; entries = l .rounds .entries; beyond = l .rounds .beyond ∙ b };
 }
 
 -- ---- from step to step
@@ -123,7 +123,7 @@ module _ (m t : List ℕ) where
     bound = omega arith;
     within = omega arith;
     kept = kept-same state;
-    filled = record { length = refl; entries = b .numbers; beyond = refl };
+    filled = record { as-long = refl; entries = b .numbers; beyond = refl };
   }
 
   module _ {state₀ table₀ state table : List ℕ} {total step : ℕ} (on : On state₀ table₀ state table total step) where
@@ -144,7 +144,7 @@ module _ (m t : List ℕ) where
       within = omega arith;
       kept = kept-trans (on .kept) k;
       filled = record {
-        length = f .length ∙ on .filled .length;
+        as-long = f .as-long ∙ on .filled .as-long;
         entries = f .entries;
         beyond = f .beyond ∙ on .filled .beyond;
       };

@@ -42,11 +42,12 @@ unfoldable pub _from_ : ℕ → List ℕ → List ℕ
 unfolding recorded facts
 h from body = recorded (facts (h ∷ body))
 
--- "A rule is three lists P, N, A; an attack state two, P and N."
+-- "A rule is three lists P, N, A"
 unfoldable pub rule : List ℕ → List ℕ → List ℕ → List ℕ
 unfolding recorded list
 rule P N A = recorded (list P ++ list N ++ list A)
 
+-- "an attack state two, P and N"
 unfoldable pub goal : List ℕ → List ℕ → List ℕ
 unfolding recorded list
 goal P N = recorded (list P ++ list N)
@@ -92,6 +93,7 @@ pub record DeskModel : Type 0 where
 
 -- ---- the table
 
+-- a row: a pair of files, and the line for it
 pub record Case : Type 0 where
   pub model : List ℕ
   pub trace : List ℕ
@@ -101,6 +103,7 @@ abbrev case : List ℕ → List ℕ → ℕ → ℕ → ℕ → ℕ → ℕ → 
 case m t number step fact rounds held =
     record { model = m; trace = t; expected = record { number = number; step = step; fact = fact; rounds = rounds; held = held } }
 
+-- the rows of "The desk model and its traces", A to L
 unfoldable pub cases : List Case
 unfolding desk other trace _from_
 cases =

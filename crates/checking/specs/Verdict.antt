@@ -9,8 +9,7 @@ use lib.ListN.{length, getD}
 use Rattle.meaning.specs.Model.{Model}
 use Rattle.meaning.specs.Run.{Outcome, run}
 use Rattle.facts.specs.Facts.{members, Kept}
-use Rattle.records.specs.Records.{given, _orElse_, records}
-use Rattle.records.specs.Answers.{placeOf}
+use Rattle.records.specs.Records.{given, _orElse_, records, placeOf}
 use Rattle.records.specs.declared.Fault.{Fault}
 use Rattle.files.specs.Sections.{sectionAt}
 use Rattle.files.specs.Files.{Blamed, section, modelOf, traceOf, pairFault}
@@ -32,7 +31,7 @@ blamed (trace f) = refused 1 f
 abbrev pub roomless : Verdict
 roomless = refused 0 (record { number = 1; start = 0; size = 0 })
 
--- "Every refusal before any step is run, in the fixed order": 1, then the pair's first fault
+-- "Order: 1; 2 (model, then trace); .. all before any step is run.": no room, then the pair's first fault
 unfoldable pub refusal : List ℕ → List ℕ → List ℕ → List ℕ → Option Verdict
 unfolding noRoom refused blamed given _orElse_ pairFault
 refusal m t state table =

@@ -7,7 +7,7 @@ ghost use Rattle.meaning.specs.Run.{after};
 ghost use Rattle.facts.specs.Facts.{members};
 ghost use Rattle.records.specs.Words.{words};
 ghost use Rattle.records.specs.Records.{listOf};
-ghost use Rattle.records.specs.Answers.{Cut};
+ghost use Rattle.records.specs.Contracts.{Cut};
 ghost use Rattle.records.specs.declared.Kind.{Kind};
 ghost use Rattle.files.specs.Files.{ruleIn};
 ghost use Rattle.checking.specs.Stepping.{Holds, Known};
@@ -36,7 +36,7 @@ fn remove_all(list: &[u8], state: &mut [u8])
     }
 }
 
-// The initial state: the facts of the bytes and no others.
+// The initial state: the facts of the bytes and no others. The caller has judged the bytes.
 pub fn begin(initial: &[u8], state: &mut [u8])
     requires { ⌜ Known (now initial) × (512 ≤ length (now state)) ⌝ }
     ensures { λ _. ⌜ Holds (now (state .entry)) (now (state .exit)) (listed (words (now (initial .entry)))) ⌝ }

@@ -23,7 +23,7 @@ use Rattle.closing.specs.Closing.{Filled, Bounded, numbered}
 
 -- Two tables that closing can leave of one table are the same.
 pub filled-unique : {cs : List Clause} {S : Facts} {before a b : List ℕ} → Filled cs S before a → Filled cs S before b → a ≡ b
-filled-unique {a = a} {b = b} p q = ext-getD 0 a b (p .length ∙ sym (q .length)) (λ f _. ⊎-elim (near f) (far f) (below-or-from f 4096))
+filled-unique {a = a} {b = b} p q = ext-getD 0 a b (p .as-long ∙ sym (q .as-long)) (λ f _. ⊎-elim (near f) (far f) (below-or-from f 4096))
   where
     near : (f : ℕ) → f < 4096 → getD a f 0 ≡ getD b f 0
     near f l = p .entries f l ∙ sym (q .entries f l)

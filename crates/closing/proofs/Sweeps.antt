@@ -16,14 +16,14 @@ use Rattle.closing.specs.Sweep.{Written, upTo, outside, swept, adds}
 
 -- After some clauses: these clauses are left, the table is this one, and a head was added or not.
 pub record Sweeping (cs : List Clause) (r : ℕ) (before : List ℕ) (rest : List Clause) (table : List ℕ) (added : Bool) : Type 0 where
-  pub length : length table ≡ length before
+  pub as-long : length table ≡ length before
   pub beyond : drop 4096 table ≡ drop 4096 before
   pub numbers : (f : ℕ) → swept rest r table f ≡ swept cs r before f
   pub answer : (added || adds rest r table) ≡ adds cs r before
 
 -- Before the first clause nothing has changed.
 pub sweep-start : (cs : List Clause) (r : ℕ) (table : List ℕ) → Sweeping cs r table cs table false
-sweep-start cs r table = record { length = refl; beyond = refl; numbers = λ f. refl; answer = refl }
+sweep-start cs r table = record { as-long = refl; beyond = refl; numbers = λ f. refl; answer = refl }
 
 -- After the last clause the table has the numbers.
 pub sweep-end : {cs : List Clause} {r : ℕ} {before table : List ℕ} {added : Bool} → Sweeping cs r before [] table added
@@ -32,7 +32,7 @@ unfolding swept adds any
 sweep-end {r = r} {table = table} {added} s = (
   sym (or-false added) ∙ s .answer,
   record {
-    length = s .length;
+    as-long = s .as-long;
     entries = λ f l. ap (λ (t : Bool). cond t (r + 1) (getD table f 0)) (sym (and-false (outside table f))) ∙ s .numbers f;
     beyond = s .beyond;
   },
@@ -76,7 +76,7 @@ module _ {cs : List Clause} {r : ℕ} {before : List ℕ} (c : Clause) {rest : L
   unfolding swept adds any outside
   sweep-pass h =
       record {
-        length = s .length;
+        as-long = s .as-long;
         beyond = s .beyond;
         numbers = λ f. sym (same f (eqb (c .head) f) refl) ∙ s .numbers f;
         answer = ap (λ (t : Bool). added || (t || adds rest r table)) (sym h) ∙ s .answer;
@@ -116,7 +116,7 @@ module _ {cs : List Clause} {r : ℕ} {before : List ℕ} (c : Clause) {rest : L
     unfolding swept adds any outside
     fire =
         record {
-          length = length-set table (c .head) (r + 1) ∙ s .length;
+          as-long = length-set table (c .head) (r + 1) ∙ s .as-long;
           beyond = drop-set-lt 4096 table (c .head) (r + 1) early ∙ s .beyond;
           numbers = λ f. same f (eqb f (c .head)) refl ∙ s .numbers f;
           answer = sym (ap (λ (t : Bool). added || t) fires ∙ or-true added) ∙ s .answer;

@@ -18,7 +18,7 @@ use Rattle.closing.specs.declared.Closed.{Closed}
 
 -- "The first 4,096 table entries hold that state's round numbers .. Anything beyond is unchanged."
 pub record Filled (cs : List Clause) (S : Facts) (before after : List ℕ) : Type 0 where
-  pub length : length after ≡ length before
+  pub as-long : length after ≡ length before
   pub entries : (f : ℕ) → f < 4096 → getD after f 0 ≡ roundNumber cs S f
   pub beyond : drop 4096 after ≡ drop 4096 before
 
@@ -61,7 +61,7 @@ unfoldable pub Table : Option ℕ → List Clause → Facts → List ℕ → Lis
 Table none cs S before after = Filled cs S before after
 Table (some k) cs S before after = after ≡ before
 
--- the same for a model that nothing refuses and a table with room
+-- for the function within: what is left to promise for a model that nothing refuses and a table with room
 pub record ClosesFine (model state before after : List ℕ) (r : Closed) : Type 0 where
   pub answers : r ≡ answer (given (someFrom (factCount model) (members state)) 6) (rounds (modelOf model .clauses) (members state))
   pub table : Table (given (someFrom (factCount model) (members state)) 6) (modelOf model .clauses) (members state) before after

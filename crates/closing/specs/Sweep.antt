@@ -12,7 +12,7 @@ use Rattle.records.specs.Words.{words}
 
 -- the first 4,096 entries are these numbers; "Anything beyond is unchanged."
 pub record Written (number : ℕ → ℕ) (before after : List ℕ) : Type 0 where
-  pub length : length after ≡ length before
+  pub as-long : length after ≡ length before
   pub entries : (f : ℕ) → f < 4096 → getD after f 0 ≡ number f
   pub beyond : drop 4096 after ≡ drop 4096 before
 
@@ -24,7 +24,7 @@ stored S f = cond (S f) 0 65535
 
 -- the numbers of a byte's first n facts, of eight, stand from `at` on; the entries before these eight and after them are unchanged
 pub record Started (b at n : ℕ) (before after : List ℕ) : Type 0 where
-  pub length : length after ≡ length before
+  pub as-long : length after ≡ length before
   pub earlier : (f : ℕ) → f < at → getD after f 0 ≡ getD before f 0
   pub entries : (k : ℕ) → k < n → getD after (at + k) 0 ≡ cond (eqb (b / 2 ^ k % 2) 1) 0 65535
   pub later : drop (at + 8) after ≡ drop (at + 8) before

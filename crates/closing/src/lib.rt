@@ -9,7 +9,7 @@ ghost use Rattle.sets.specs.Sets.{every};
 ghost use Rattle.meaning.specs.Rounds.{rounds};
 ghost use Rattle.facts.specs.Facts.{members};
 ghost use Rattle.records.specs.Words.{word, words};
-ghost use Rattle.records.specs.Answers.{AllCut};
+ghost use Rattle.records.specs.Contracts.{AllCut};
 ghost use Rattle.records.specs.declared.Kind.{Kind};
 ghost use Rattle.files.specs.Files.{clausesIn};
 ghost use Rattle.files.specs.Answers.{Shaped};
@@ -62,7 +62,7 @@ fn start(state: &[u8], table: &mut [u16])
 {
     for i in 0..BYTES {
         let b = byte_at(state, i);
-        // A byte with no fact, as most are, is one store.
+        // Most bytes have no fact; their eight entries become one store.
         if b == 0 {
             start_byte(0, table, i * 8);
         } else {
@@ -137,7 +137,7 @@ pub fn close_judged(clauses: &[u8], state: &[u8], table: &mut [u16]) -> usize
     r as usize
 }
 
-// Closes under a judged model's clauses, where the state has no fact of F or more.
+// Closes under a judged model's clauses; a state with a fact of F or more is refused.
 fn close_shaped(model: &[u8], layout: Layout, state: &[u8], table: &mut [u16]) -> Closed
     requires { ⌜ Shaped (now model) layout × (4096 ≤ length (now table)) ⌝ }
     ensures { λ r. ⌜ ClosesFine (now (model .entry)) (now (state .entry)) (now (table .entry)) (now (table .exit)) r ⌝ }

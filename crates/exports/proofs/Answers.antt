@@ -6,11 +6,12 @@ use mathlib.Core.Option.{Option, none, some}
 use native.Mathlib.Omega.{arith}
 use borrow.Author.Tests.{lt-ltb, le-ltb}
 use lib.ListN.{length, set}
+use Rattle.records.specs.Answers.{code}
 use Rattle.closing.specs.Closing as closing
 use Rattle.closing.specs.declared.Closed.{Closed}
 use Rattle.checking.specs.Verdict.{Checked}
 use Rattle.checking.specs.declared.Verdict.{Verdict}
-use Rattle.exports.specs.Exports.{shorter, over, values, verdict, Checks, numberOf, roundsOut, Rounds, Closes}
+use Rattle.exports.specs.Exports.{shorter, over, values, Checks, roundsOut, Rounds, Closes}
 use Rattle.exports.proofs.Fronts.{stored}
 
 -- ---- the verdict
@@ -23,7 +24,7 @@ no-verdict m t state table out short = rw (lt-ltb _ _ short) (refl, refl, refl, 
 -- with room, its values are written
 pub some-verdict : (m t state state' table table' out out' : List ℕ) (v : Verdict) → 8 ≤ length out → Checked m t state state' table table' v
     → out' ≡ over (values v) out → Checks (shorter out 8) m t state state' table table' out out' (v .number)
-unfolding shorter Checks verdict
+unfolding shorter Checks
 some-verdict m t state state' table table' out out' v room checked written =
     rw (le-ltb _ _ room)
     (record {
@@ -55,7 +56,7 @@ module _ (m state table : List ℕ) where
   module _ (table' out : List ℕ) (r : Closed) (n : ℕ) (room : 1 ≤ length out) (closed : closing.Closes m state table table' r) where
     -- the rounds are written
     pub some-rounds : r ≡ Closed.Rounds n → Closes (shorter out 1) m state table table' out (set out 0 n) 0
-    unfolding shorter Closes numberOf roundsOut
+    unfolding shorter Closes code roundsOut
     some-rounds told =
         let (fine, same) = rounds-fine _ _ _ (sym told ∙ closed .answers) in
         rw (le-ltb _ _ room)
@@ -67,7 +68,7 @@ module _ (m state table : List ℕ) where
 
     -- a refusal writes nothing
     pub refused : r ≡ Closed.Refused n → Closes (shorter out 1) m state table table' out out n
-    unfolding shorter Closes numberOf roundsOut
+    unfolding shorter Closes code roundsOut
     refused told =
         let number = refused-some _ _ _ (sym told ∙ closed .answers) in
         rw (le-ltb _ _ room)

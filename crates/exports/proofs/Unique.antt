@@ -30,4 +30,4 @@ closes-unique false m state table t₁ t₂ out o₁ o₂ r₁ r₂ x y =
     (x .number ∙ sym (y .number), table-unique (refusal m state table) (modelOf m .clauses) (members state) table t₁ t₂ (x .entries) (y .entries), x .rounds ∙ sym (y .rounds))
 
 pub parts-unique : {part out o₁ o₂ : List ℕ} {r₁ r₂ : ℕ} → Parts part out o₁ r₁ → Parts part out o₂ r₂ → (r₁ ≡ r₂) × (o₁ ≡ o₂)
-parts-unique x y = (x .length ∙ sym (y .length), x .bytes ∙ sym (y .bytes))
+parts-unique x y = (x .count ∙ sym (y .count), x .bytes ∙ sym (y .bytes))

@@ -1,4 +1,4 @@
--- What the exported functions answer and leave, in the definitions below: the verdict, closing, and the part of a file.
+-- What the exported functions answer and leave, by the definitions of the crates below this one: the verdict, closing, and the part of a file.
 use Prim.Native.Nat.{ℕ}
 use mathlib.Core.Path.{_≡_}
 use mathlib.Core.Bool.{Bool, true, false}
@@ -8,9 +8,11 @@ use lib.Dec.{ltb}
 use lib.ListN.{length, take, drop}
 use Rattle.meaning.specs.Rounds as meant
 use Rattle.facts.specs.Facts.{members}
+use Rattle.records.specs.Answers.{code}
 use Rattle.files.specs.Files.{modelOf}
 use Rattle.closing.specs.Closing as closing
 use Rattle.checking.specs.Verdict as checking
+use Rattle.checking.specs.Promises.{verdict}
 use Rattle.checking.specs.declared.Verdict.{Verdict}
 
 -- whether a list has fewer than n entries
@@ -25,10 +27,6 @@ over values out = take (length out) values ++ drop (length values) out
 unfoldable pub values : Verdict → List ℕ
 values v = v .number ∷ v .step ∷ v .fact ∷ v .rounds ∷ v .held ∷ v .mark ∷ v .start ∷ v .size ∷ []
 
--- the verdict on a pair, by document 01
-unfoldable pub verdict : List ℕ → List ℕ → List ℕ → List ℕ → Verdict
-verdict m t state table = checking.verdictOf m t (checking.refusal m t state table)
-
 -- the answer with room for the verdict: its number, its values, and every byte and entry of both buffers
 pub record Verdicts (m t state state' table table' out out' : List ℕ) (r : ℕ) : Type 0 where
   pub number : r ≡ verdict m t state table .number
@@ -40,11 +38,6 @@ unfoldable pub Checks : Bool → List ℕ → List ℕ → List ℕ → List ℕ
 Checks true m t state state' table table' out out' r = (r ≡ 1) × (state' ≡ state) × (table' ≡ table) × (out' ≡ out)
 Checks false m t state state' table table' out out' r = Verdicts m t state state' table table' out out' r
 
--- 0, or the refusal's number
-unfoldable pub numberOf : Option ℕ → ℕ
-numberOf none = 0
-numberOf (some k) = k
-
 -- the number of rounds in the first entry; a refusal writes nothing
 unfoldable pub roundsOut : Option ℕ → ℕ → List ℕ → List ℕ
 roundsOut none n out = over (n ∷ []) out
@@ -52,7 +45,7 @@ roundsOut (some k) n out = out
 
 -- the answer with room for the rounds, and every entry of the table
 pub record Rounds (m state table table' out out' : List ℕ) (r : ℕ) : Type 0 where
-  pub number : r ≡ numberOf (closing.refusal m state table)
+  pub number : r ≡ code (closing.refusal m state table)
   pub rounds : out' ≡ roundsOut (closing.refusal m state table) (meant.rounds (modelOf m .clauses) (members state)) out
   pub entries : closing.Table (closing.refusal m state table) (modelOf m .clauses) (members state) table table'
 
@@ -63,5 +56,5 @@ Closes false m state table table' out out' r = Rounds m state table table' out o
 
 -- what `cantivorex_part` promises: the part's length, and its bytes
 pub record Parts (part out out' : List ℕ) (r : ℕ) : Type 0 where
-  pub length : r ≡ length part
+  pub count : r ≡ length part
   pub bytes : out' ≡ over part out

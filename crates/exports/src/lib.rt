@@ -1,4 +1,4 @@
-// The library for C and Rust: three functions on numbers and slices, with no requires, so that no caller can break one.
+// The library for C and Rust: three functions on numbers and slices. None has a requires; that the areas lent are there is the caller's to see to.
 // include/cantivorex.h declares them for C.
 ghost use Prim.Native.Nat.{_≤_};
 ghost use mathlib.Core.Path.{_≡_};

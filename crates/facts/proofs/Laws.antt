@@ -107,15 +107,15 @@ module _ (u : Bool → Bool → Bool) (other : (x : Bool) → u x false ≡ x) w
 
 -- An operation that changes nothing leaves alone what it must.
 pub kept-same : (l : List ℕ) → Kept l l
-kept-same l = record { length = refl; beyond = refl }
+kept-same l = record { as-long = refl; beyond = refl }
 
 -- What two operations leave alone one after the other, both leave alone.
 pub kept-trans : {a b c : List ℕ} → Kept a b → Kept b c → Kept a c
-kept-trans p q = record { length = q .length ∙ p .length; beyond = q .beyond ∙ p .beyond }
+kept-trans p q = record { as-long = q .as-long ∙ p .as-long; beyond = q .beyond ∙ p .beyond }
 
 -- A write of one of the first 512 bytes leaves alone what it must.
 pub kept-set : (l : List ℕ) (i v : ℕ) → i < 512 → Kept l (set l i v)
-kept-set l i v h = record { length = length-set l i v; beyond = drop-set-lt 512 l i v h }
+kept-set l i v h = record { as-long = length-set l i v; beyond = drop-set-lt 512 l i v h }
 
 -- A buffer has room for a fact whose byte is among its first 512.
 pub room-in : (l : List ℕ) (f : ℕ) → f / 8 < min 512 (length l) → room l f ≡ true
@@ -204,7 +204,7 @@ cleared-zero {l} {a} p z =
           λ g.
           ⊎-elim
           (λ h. members-byte a g (omega arith) ∙ ap (λ (b : ℕ). on b (g % 8)) (z (g / 8) h) ∙ on-zero (g % 8))
-          (λ h. missing a g (omega (arith, p .length)))
+          (λ h. missing a g (omega (arith, p .as-long)))
           (below-or-from (g / 8) (min 512 (length l)));
       kept = p;
     }
@@ -259,7 +259,7 @@ same-members a b ha hb n e d =
 pub determined : {l a b : List ℕ} → Bytes a → Bytes b → Kept l a → Kept l b
     → ((f : ℕ) → members a f ≡ members b f) → a ≡ b
 determined {l} {a} {b} ha hb p q e =
-    same-members a b ha hb (p .length ∙ sym (q .length)) e (p .beyond ∙ sym (q .beyond))
+    same-members a b ha hb (p .as-long ∙ sym (q .as-long)) e (p .beyond ∙ sym (q .beyond))
 
 -- Two buffers that adding one fact can leave are the same.
 pub added-unique : {l a b : List ℕ} {f : ℕ} → Bytes a → Bytes b → Added l f a → Added l f b → a ≡ b

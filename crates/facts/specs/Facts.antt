@@ -18,7 +18,7 @@ members bytes = bit (take 512 bytes)
 
 -- what an operation that changes the set leaves alone: the buffer's length and every byte after the first 512
 pub record Kept (before after : List ℕ) : Type 0 where
-  pub length : length after ≡ length before
+  pub as-long : length after ≡ length before
   pub beyond : drop 512 after ≡ drop 512 before
 
 -- whether the buffer has the fact's byte, among its first 512

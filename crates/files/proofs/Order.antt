@@ -14,7 +14,7 @@ use Rattle.sets.proofs.Laws.{is-false, fails, any-intro}
 use Rattle.records.specs.Words.{word, words, odd, ascending}
 use Rattle.records.specs.Records.{given, _orElse_, records, bare, judge, firstFault, negated}
 use Rattle.records.specs.declared.Fault.{Fault}
-use Rattle.records.specs.Answers.{headIn, AllCut, listCount}
+use Rattle.records.specs.Contracts.{headIn, AllCut, listCount}
 use Rattle.records.specs.declared.Kind.{Kind}
 use Rattle.records.proofs.Laws.{judged-cut}
 use Rattle.files.specs.Sections.{endAt, sectionAt, payload, moved, inSection, leftOver, allOf}

@@ -12,9 +12,9 @@ use lib.Seq.{getD-drop, drop-drop, length-take-le}
 use borrow.Author.Tests.{le-leb, lt-leb, ne-eqb}
 use Rattle.sets.specs.Sets.{any}
 use Rattle.records.specs.Words.{word, words, odd, ascending}
-use Rattle.records.specs.Records.{given, _orElse_, records, bare, firstFrom, firstFault}
+use Rattle.records.specs.Records.{given, _orElse_, records, bare, firstFrom, firstFault, placeOf}
 use Rattle.records.specs.declared.Fault.{Fault}
-use Rattle.records.specs.Answers.{code, placeOf}
+use Rattle.records.specs.Answers.{code}
 use Rattle.records.proofs.Sections.{first-here, first-later}
 use Rattle.records.proofs.Places.{records-sum}
 use Rattle.files.specs.Sections.{long, endAt, fits, payload, restFault, moved, inSection, allOf}

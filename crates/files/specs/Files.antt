@@ -15,7 +15,7 @@ use Rattle.files.specs.Sections.{inSection, leftOver, allOf, payload, se
 
 -- ---- the lists that a file is
 
--- what section i holds
+-- "that section's bytes and no others": what section i holds
 unfoldable pub section : List ℕ → ℕ → List ℕ
 unfolding payload sectionAt
 section file i = payload file (sectionAt file i)
@@ -25,6 +25,7 @@ unfoldable pub factCount : List ℕ → ℕ
 unfolding word section
 factCount file = word (section file 0)
 
+-- "A clause is its head and then the body facts, 2 bytes each.", behind the record's length
 unfoldable pub clauseOf : List ℕ → Clause
 unfolding word words
 clauseOf r = record { head = word (drop 2 r); body = words (drop 4 r) }
@@ -34,15 +35,17 @@ unfoldable pub clausesIn : List ℕ → List Clause
 unfolding records clauseOf
 clausesIn section = map clauseOf (records section)
 
+-- "A rule is three lists P, N, A"
 unfoldable pub ruleIn : List ℕ → Rule
 unfolding listOf
 ruleIn r = record { P = listOf kind.Rule r 0; N = listOf kind.Rule r 1; A = listOf kind.Rule r 2 }
 
+-- "an attack state two, P and N"
 unfoldable pub goalIn : List ℕ → Goal
 unfolding listOf
 goalIn r = record { P = listOf kind.Goal r 0; N = listOf kind.Goal r 1 }
 
--- "Model sections, in order: 1. sizes 2. initial facts 3. clauses; 4. rules; 5. attack states"
+-- "Model sections, in order: 1. sizes .. 2. initial facts .. 3. clauses; 4. rules; 5. attack states"
 unfoldable pub modelOf : List ℕ → Model
 unfolding factCount words section records clausesIn ruleIn goalIn
 modelOf file = record {
@@ -80,7 +83,7 @@ unfoldable pub numbers : ℕ → List ℕ → Option Fault
 unfolding allOf bare
 numbers F bytes = allOf (bare F bytes) bytes
 
--- whether a fact is the head of a clause of the model
+-- "the head of any clause"
 unfoldable pub isHead : List ℕ → ℕ → Bool
 unfolding any modelOf
 isHead file f = any (λ c. eqb (c .head) f) (modelOf file .clauses)
@@ -103,14 +106,14 @@ negatedFault file =
     inSection (firstFault (negated kind.Rule (isHead file))) file (sectionAt file 3)
     orElse inSection (firstFault (negated kind.Goal (isHead file))) file (sectionAt file 4)
 
--- a model judged by itself
+-- 2 to 8 in the order, for a model by itself
 unfoldable pub modelFault : List ℕ → Option Fault
 unfolding _orElse_ tooLong wrongVersion shapeFault negatedFault
 modelFault file = tooLong 65536 file orElse wrongVersion file orElse shapeFault file orElse negatedFault file
 
 -- ---- the trace's faults, in order
 
--- a number of the trace and some rule numbers: two bytes at least, and no odd one
+-- "an attack state number and then rule numbers, 2 bytes each. No steps is legal": two bytes at least, and none left over
 unfoldable pub traceShape : List ℕ → Option Fault
 unfolding given allOf odd
 traceShape bytes = allOf (given (odd bytes || ltb (length bytes) 2) 4) bytes

@@ -8,7 +8,7 @@ use lib.ListN.{length, take, drop, getD}
 use Rattle.records.specs.Records.{given}
 use Rattle.records.specs.declared.Fault.{Fault}
 
--- the number that the first four bytes are, big-endian
+-- "All numbers are big-endian .. a 4-byte length": the number that the first four bytes are
 unfoldable pub long : List ℕ → ℕ
 long bytes = ((getD bytes 0 0 * 256 + getD bytes 1 0) * 256 + getD bytes 2 0) * 256 + getD bytes 3 0
 
@@ -33,7 +33,7 @@ unfoldable pub payload : List ℕ → ℕ → List ℕ
 unfolding long
 payload file at = take (long (drop at file)) (drop (at + 4) file)
 
--- a fault from a place of the file on to its end
+-- "the rest of the file, from that length on": a fault from a place of the file on to its end
 unfoldable pub restFault : List ℕ → ℕ → Fault
 restFault file at = record { number = 4; start = at; size = length file - at }
 

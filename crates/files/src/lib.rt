@@ -9,7 +9,7 @@ pub mod trace;
 
 use records::Fault;
 
-// Where the lengths of a judged model's sections stand, where the last section ends, and how many rules and attack states there are.
+// A judged model's F, where the lengths of its other sections stand, where the last section ends, and how many rules and attack states there are.
 pub struct Layout {
     pub facts: usize,
     pub initial: usize,

@@ -4,7 +4,7 @@ ghost use mathlib.Core.Option.{Option·map};
 ghost use Prim.Native.Nat.{_+_, _≤_, _<_};
 ghost use lib.ListN.{length, take};
 ghost use Rattle.records.specs.Records.{_orElse_, firstFault, negated};
-ghost use Rattle.records.specs.Answers.{headIn, AllCut, listCount};
+ghost use Rattle.records.specs.Contracts.{headIn, AllCut, listCount};
 ghost use Rattle.files.specs.Sections.{moved};
 ghost use Rattle.files.specs.Files.{tooLong, wrongVersion, shapeFault, negatedFault, modelFault};
 ghost use Rattle.files.specs.Answers.{numberOf, layoutOf, judged, Begun, Shaped};

@@ -53,5 +53,6 @@ pub record JudgedFrom (m : Model) (g : ℕ) (S : Facts) (ks : List ℕ) (o : Out
   pub held : o .held ≡ size (o .state) (m .F)
   pub roundNumbers : (f : ℕ) → o .roundNumbers f ≡ roundNumber (m .clauses) (o .state) f
 
+-- o is the outcome of the trace on the model
 abbrev pub Judged : Model → Trace → Outcome → Type 0
 Judged m t o = JudgedFrom m (t .goal) (listed (m .initial)) (t .steps) o

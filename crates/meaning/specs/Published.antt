@@ -23,7 +23,7 @@ pub record Meets (X : Facts) (P N : List ℕ) : Type 0 where
   pub positive : (f : ℕ) → f ∈ P → T (X f)
   pub negative : (f : ℕ) → f ∈ N → T (X f) → ⊥
 
--- S' is (S without P) together with A: "S' = S \ PosE(L) ∪ S_R"; in this build no fact is persistent
+-- "The next state is (S without P) together with A.": 003's S' without its exemptions, which 01 doesn't take over (docs/DECISIONS.md, "Meaning")
 unfoldable pub Next : Rule → Facts → Facts → Type 0
 Next r S S' = (f : ℕ) → T (S' f) ↔ ((T (S f) × (f ∈ r .P → ⊥)) ⊎ f ∈ r .A)
 
@@ -47,7 +47,7 @@ pub record AttackMet (m : Model) (g : ℕ) (S : Facts) : Type 0 where
   pub isHC : HC (m .clauses) S closure
   pub meets : Meets closure (goalOf m g .P) (goalOf m g .N)
 
--- demand 2: "every step is a transition" and "the last state's closure meets the named attack state"
+-- demand 2 (docs/PROMISES.md): every step is a transition, and the last state's closure meets the named attack state
 pub record TrueAttack (m : Model) (t : Trace) : Type 0 where
   pub last : Facts
   pub path : Path m (listed (m .initial)) (t .steps) last

@@ -28,7 +28,7 @@ unfoldable pub obeys : List Clause → Facts → Bool
 unfolding every stands
 obeys cs X = every (λ c. not (stands X c) || X (c .head)) cs
 
--- "The number of rounds is that round's number": the first round that equals the next one. There is one among the first as many as there are clauses.
+-- "The number of rounds is that round's number": the first round that equals the next one. There is one among the rounds from 0 to the number of clauses.
 unfoldable pub rounds : List Clause → Facts → ℕ
 unfolding obeys round first
 rounds cs S = first (λ r. obeys cs (round cs S r)) (length cs)
@@ -49,7 +49,7 @@ unfolding listed
 different p [] = zero
 different p (x ∷ xs) = cond (p x && not (listed xs x)) 1 0 + different p xs
 
--- demand 3: "the different clause heads missing from the start"
+-- demand 3 (docs/PROMISES.md): the different clause heads that are missing from the start
 unfoldable pub missingHeads : List Clause → Facts → ℕ
 unfolding different
 missingHeads cs S = different (λ f. not (S f)) (map (λ c. c .head) cs)

@@ -54,6 +54,7 @@ runFrom m g S (k ∷ ks) =
       | some f ↦ stopped m S 10 f
     ]
 
+-- "all states reached, the initial one included": the run starts in the initial state
 unfoldable pub run : Model → Trace → Outcome
 unfolding runFrom listed
 run m t = runFrom m (t .goal) (listed (m .initial)) (t .steps)

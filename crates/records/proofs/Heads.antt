@@ -8,7 +8,7 @@ use lib.ListN.{length, drop}
 use Rattle.sets.specs.Sets.{any, listed}
 use Rattle.records.specs.Words.{word}
 use Rattle.records.specs.Records.{recordOf}
-use Rattle.records.specs.Answers.{headIn}
+use Rattle.records.specs.Contracts.{headIn}
 use Rattle.records.proofs.Sections.{records-at, records-end}
 
 -- No entry passes a test that always fails.

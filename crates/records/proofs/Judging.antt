@@ -11,7 +11,8 @@ use borrow.Author.Tests.{eq-eqb, ne-eqb}
 use Rattle.sets.specs.Sets.{any}
 use Rattle.records.specs.Words.{word, ascending}
 use Rattle.records.specs.Records.{given, _orElse_, cut, listsOf, judge, longest, most}
-use Rattle.records.specs.Answers.{code, pickedOf, before}
+use Rattle.records.specs.Answers.{code}
+use Rattle.records.specs.Contracts.{pickedOf, before}
 use Rattle.records.specs.declared.Kind.{Kind}
 
 -- a record is judged by the marks of its lists, after the mark for its number

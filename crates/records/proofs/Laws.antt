@@ -13,7 +13,8 @@ use Rattle.sets.specs.Sets.{any, _∈_}
 use Rattle.sets.proofs.Laws.{is-false, fails, by-test, any-intro}
 use Rattle.records.specs.Words.{ascending}
 use Rattle.records.specs.Records.{given, records, listOf, longest, most, judge, firstFrom, firstFault, negated}
-use Rattle.records.specs.Answers.{code, found, Cut, AllCut}
+use Rattle.records.specs.Answers.{code, found}
+use Rattle.records.specs.Contracts.{Cut, AllCut}
 use Rattle.records.specs.declared.Fault.{Fault}
 use Rattle.records.specs.declared.Kind.{Kind}
 use Rattle.records.specs.declared.Found.{Found}

@@ -16,7 +16,7 @@ use Rattle.sets.specs.Sets.{any}
 use Rattle.sets.proofs.Laws.{by-test}
 use Rattle.records.specs.Words.{word, words, odd, ascending}
 use Rattle.records.specs.Records.{given, _orElse_, bare, cutLists, cutClause}
-use Rattle.records.specs.Answers.{Marked, picked, pickedOf, before}
+use Rattle.records.specs.Contracts.{Marked, picked, pickedOf, before}
 use Rattle.records.specs.declared.Marks.{Marks}
 use Rattle.records.proofs.Words.{odd-is, length-words}
 

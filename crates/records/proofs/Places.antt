@@ -7,8 +7,7 @@ use native.Mathlib.Omega.{arith}
 use lib.ListN.{length, drop, getD, length-drop}
 use lib.Seq.{drop-drop}
 use Rattle.sets.specs.Sets.{_∈_}
-use Rattle.records.specs.Records.{recordOf, records}
-use Rattle.records.specs.Answers.{placeOf}
+use Rattle.records.specs.Records.{recordOf, records, placeOf}
 use Rattle.records.proofs.Sections.{record-size, records-none, records-next, records-end, records-at}
 
 -- the bytes after a section's first record

@@ -43,9 +43,16 @@ recordsIn zero bytes = []
 recordsIn (suc turns) [] = []
 recordsIn (suc turns) (b ∷ bytes) = recordOf (b ∷ bytes) ∷ recordsIn turns (drop (length (recordOf (b ∷ bytes))) (b ∷ bytes))
 
+-- "Records are numbered from 0.": all of a section, by their place in this list
 unfoldable pub records : List ℕ → List (List ℕ)
 unfolding recordsIn
 records section = recordsIn (length section) section
+
+-- where record n of these starts: after the n before it
+unfoldable pub placeOf : ℕ → List (List ℕ) → ℕ
+placeOf zero rs = 0
+placeOf (suc n) [] = 0
+placeOf (suc n) (r ∷ rs) = length r + placeOf n rs
 
 -- ---- the lists of a record
 
@@ -107,7 +114,7 @@ judge K F n r =
           orElse given (any (λ l. not (ascending l)) lists) 7
     ]
 
--- "Sizes and initial facts count as one record each": bare numbers, which fill the bytes, are below F and strictly ascending
+-- "The initial facts, each clause body and each list are strictly ascending.": bare numbers, which fill the bytes and are below F
 unfoldable pub bare : ℕ → List ℕ → Option ℕ
 unfolding given _orElse_ odd any words ascending
 bare F bytes = given (odd bytes) 4 orElse given (any (leb F) (words bytes)) 6 orElse given (not (ascending (words bytes))) 7

@@ -4,8 +4,9 @@ ghost use Prim.Native.Nat.{_+_, _<_, _≤_};
 ghost use lib.ListN.{length, drop};
 ghost use Rattle.sets.specs.Sets.{any, listed};
 ghost use Rattle.records.specs.Words.{word, words};
-ghost use Rattle.records.specs.Records.{recordOf, records, bare, judge, negated, firstFault, cutLists, cutClause};
-ghost use Rattle.records.specs.Answers.{code, found, headIn, placeOf, Marked, picked, pickedOf, before, AllCut, Cut, listCount, ListBytes};
+ghost use Rattle.records.specs.Records.{recordOf, records, bare, judge, negated, firstFault, cutLists, cutClause, placeOf};
+ghost use Rattle.records.specs.Answers.{code, found};
+ghost use Rattle.records.specs.Contracts.{headIn, Marked, picked, pickedOf, before, Cut, AllCut, listCount, ListBytes};
 
 // The three kinds of records.
 pub enum Kind {

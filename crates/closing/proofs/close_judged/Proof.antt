@@ -32,7 +32,7 @@ start-requires c κs = c .before .before .before .before .pre .2
 loop-holds : tie.Need-loop-holds Inv-loop μ-loop
 loop-holds c =
     let begun = c .before .before .start .ensures in
-    (omega arith, record { length = refl; entries = λ f l. begun .entries f l ∙ number-start _ _ f; beyond = refl })
+    (omega arith, record { as-long = refl; entries = λ f l. begun .entries f l ∙ number-start _ _ f; beyond = refl })
 
 -- At the loop's head: the round's number fits, and the table is long enough.
 module _ (c : tie.At-loop Inv-loop μ-loop) where
@@ -49,7 +49,7 @@ module _ (c : tie.At-loop Inv-loop μ-loop) where
   small = omega (arith, rounds-fit cs S (entry .pre .1), c .loop .inv .0)
 
   long : 4096 ≤ length (c .loop .table)
-  long = omega (arith, c .loop .inv .1 .length, c .before .before .before .start .ensures .length, entry .pre .2)
+  long = omega (arith, c .loop .inv .1 .as-long, c .before .before .before .start .ensures .as-long, entry .pre .2)
 
 sweep-requires : tie.Need-sweep-requires Inv-loop μ-loop
 sweep-requires c κs = (entry (c .before) .pre .0, entry (c .before) .pre .1, long (c .before), omega (arith, small (c .before)))
@@ -70,7 +70,7 @@ module _ (c : tie.After-sweep Inv-loop μ-loop) where
   table : Written (numberAfter (cs head) (S head) (suc r)) (head .before .before .before .start .last .1 .0) (c .sweep .last .1 .0)
   table =
       record {
-        length = c .sweep .ensures .1 .length ∙ head .loop .inv .1 .length;
+        as-long = c .sweep .ensures .1 .as-long ∙ head .loop .inv .1 .as-long;
         entries =
             λ f l.
             c .sweep .ensures .1 .entries f l
@@ -99,7 +99,7 @@ cast-result c = omega (arith, small (head (c .before .before .before)))
 same-length : tie.Need-same-length Inv-loop μ-loop
 same-length c =
     let a = c .before .before .before in
-    table a .length ∙ head a .before .before .before .start .ensures .length
+    table a .as-long ∙ head a .before .before .before .start .ensures .as-long
 
 returns : tie.Need-returns Inv-loop μ-loop
 returns c =
@@ -109,7 +109,7 @@ returns c =
     let rest = last a (c .if1 .left) in (
       is-last (cs h) (S h) (r a) (h .loop .inv .0) rest,
       record {
-        length = table a .length ∙ begun .length;
+        as-long = table a .as-long ∙ begun .as-long;
         entries = λ f l. table a .entries f l ∙ number-end (cs h) (S h) (r a) (h .loop .inv .0) rest f;
         beyond = table a .beyond ∙ begun .beyond;
       },

@@ -40,7 +40,7 @@ module _ (state table₀ table after : List ℕ) (i : ℕ) (inv : Inv-loop state
   more : Inv-loop state table₀ 0 after (i + 1)
   more = (
     omega arith,
-    s .length ∙ inv .1,
+    s .as-long ∙ inv .1,
     λ f l.
         ⊎-elim (λ q. s .earlier f q ∙ inv .2 f q)
         (λ q. subst (λ (g : ℕ). getD after g 0 ≡ stored (members state) g) (add-sub-of-le q) (entry (f - i * 8) (omega arith)))
@@ -91,7 +91,7 @@ same-length c = c .before .loop .inv .1
 returns : tie.Need-returns Inv-loop μ-loop
 returns c =
     let at = c .before .loop in
-    record { length = at .inv .1; entries = λ f l. at .inv .2 f (omega arith); beyond = at .inv .3 }
+    record { as-long = at .inv .1; entries = λ f l. at .inv .2 f (omega arith); beyond = at .inv .3 }
 
 pub start-spec : {M : Type 1} → statement M
 start-spec =

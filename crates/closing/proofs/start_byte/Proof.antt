@@ -17,7 +17,7 @@ abbrev μ-loop : tie.MeasureT-loop
 μ-loop b table₀ at k₀ table k = 8 - k
 
 loop-holds : tie.Need-loop-holds Inv-loop μ-loop
-loop-holds c = (omega arith, record { length = refl; earlier = λ f l. refl; entries = λ k l. absurd (omega arith); later = refl })
+loop-holds c = (omega arith, record { as-long = refl; earlier = λ f l. refl; entries = λ k l. absurd (omega arith); later = refl })
 
 cast-number : tie.Need-cast-number Inv-loop μ-loop
 cast-number c = omega arith
@@ -52,7 +52,7 @@ loop-again c =
     let inside : args .at + k < length table = omega arith in (
       omega arith,
       record {
-        length = length-set table (args .at + k) _ ∙ inv .length;
+        as-long = length-set table (args .at + k) _ ∙ inv .as-long;
         earlier = λ f l. getD-set-other table (args .at + k) f _ 0 (λ e. omega arith) ∙ inv .earlier f l;
         entries =
             below-more _ k (λ j l. getD-set-other table (args .at + k) (args .at + j) _ 0 (λ e. omega arith) ∙ inv .entries j l)
@@ -62,7 +62,7 @@ loop-again c =
     )
 
 same-length : tie.Need-same-length Inv-loop μ-loop
-same-length c = c .before .loop .inv .1 .length
+same-length c = c .before .loop .inv .1 .as-long
 
 returns : tie.Need-returns Inv-loop μ-loop
 returns c =

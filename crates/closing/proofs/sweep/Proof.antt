@@ -11,7 +11,7 @@ use denote.Ref.{now}
 use Rattle.meaning.specs.Model.{Clause}
 use Rattle.meaning.specs.Rounds.{stands}
 use Rattle.records.specs.Words.{word}
-use Rattle.records.specs.Answers.{AllCut}
+use Rattle.records.specs.Contracts.{AllCut}
 use Rattle.records.specs.declared.Kind.{Kind}
 use Rattle.records.proofs.Sections.{rest-of, records-end}
 use Rattle.files.specs.Files.{clauseOf, clausesIn}
@@ -104,7 +104,7 @@ module _ (c : tie.After-word-at2 Inv-loop μ-loop) where
   low = rw (c .word-at2 .ensures) (here turn .head)
 
   long : 4096 ≤ length (loop .loop .table)
-  long = omega (arith, loop .loop .inv .3 .length, entry .pre .2)
+  long = omega (arith, loop .loop .inv .3 .as-long, entry .pre .2)
 
   head-is : c .word-at2 .result ≡ this .head
   unfolding clauseOf
@@ -183,7 +183,7 @@ loop-again-3 c =
     again w _ _ (sweep-skip (this w) (sweeping w) _ (head-is w) (c .if1 .left))
 
 same-length : tie.Need-same-length Inv-loop μ-loop
-same-length c = c .before .loop .inv .3 .length
+same-length c = c .before .loop .inv .3 .as-long
 
 returns : tie.Need-returns Inv-loop μ-loop
 unfolding clausesIn

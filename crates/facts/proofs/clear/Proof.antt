@@ -45,7 +45,7 @@ loop-again c =
     )
 
 same-length : tie.Need-same-length Inv-loop μ-loop
-same-length c = c .before .loop .inv .1 .length
+same-length c = c .before .loop .inv .1 .as-long
 
 returns : tie.Need-returns Inv-loop μ-loop
 returns c = cleared-zero (c .before .loop .inv .1) (λ i h. c .before .loop .inv .2 i (omega arith))

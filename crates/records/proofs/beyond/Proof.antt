@@ -1,6 +1,6 @@
 -- `records::beyond` meets its contract.
 use mathlib.Core.Path.{refl}
-use Rattle.records.specs.Answers.{before}
+use Rattle.records.specs.Contracts.{before}
 use Rattle.records.proofs.beyond.Statement.{statement}
 use Rattle.records.proofs.beyond.Tie as tie
 

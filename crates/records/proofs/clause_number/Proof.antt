@@ -8,7 +8,8 @@ use lib.ListN.{take, drop, length-take}
 use denote.Ref.{now}
 use borrow.Author.Tests.{lt-ltb, le-ltb}
 use Rattle.records.specs.Words.{words}
-use Rattle.records.specs.Answers.{code, pickedOf}
+use Rattle.records.specs.Answers.{code}
+use Rattle.records.specs.Contracts.{pickedOf}
 use Rattle.records.proofs.Sections.{rest-of}
 use Rattle.records.proofs.Lists.{clause-tests, picked-end, picked-more}
 use borrow.Author.Needs.{needs}

@@ -8,7 +8,8 @@ use denote.Ref.{now}
 use lib.ListN.{length, drop}
 use Rattle.sets.specs.Sets.{any}
 use Rattle.records.specs.Records.{records, given, negated, firstFault}
-use Rattle.records.specs.Answers.{found, headIn, AllCut}
+use Rattle.records.specs.Answers.{found}
+use Rattle.records.specs.Contracts.{headIn, AllCut}
 use Rattle.records.proofs.Sections.{answerFrom, answer-start, answer-fault, answer-next, answer-end}
 use Rattle.records.proofs.Cuts.{Here, record-here}
 use Rattle.records.proofs.first_negated.Statement.{statement}

@@ -7,7 +7,7 @@ use denote.Ref.{now}
 use lib.ListN.{length, drop}
 use Rattle.sets.specs.Sets.{any, listed}
 use Rattle.records.specs.Words.{word, words}
-use Rattle.records.specs.Answers.{headIn, AllCut}
+use Rattle.records.specs.Contracts.{headIn, AllCut}
 use Rattle.records.specs.declared.Kind.{Kind}
 use Rattle.records.proofs.Words.{words-none}
 use Rattle.records.proofs.Cuts.{Here, record-here, clause-size}

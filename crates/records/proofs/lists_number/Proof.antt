@@ -7,7 +7,8 @@ use denote.Ref.{now}
 use borrow.Author.Needs.{needs}
 use Rattle.records.specs.Words.{word}
 use Rattle.records.specs.Records.{cutLists}
-use Rattle.records.specs.Answers.{code, pickedOf}
+use Rattle.records.specs.Answers.{code}
+use Rattle.records.specs.Contracts.{pickedOf}
 use Rattle.records.proofs.Words.{word-small}
 use Rattle.records.proofs.Lists.{number-short, number-next, number-over, number-end}
 use Rattle.records.proofs.lists_number.Statement.{statement}

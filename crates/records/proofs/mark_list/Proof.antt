@@ -11,7 +11,7 @@ use borrow.Author.Tests.{le-leb, lt-leb, le-ltb, lt-ltb}
 use denote.Ref.{now}
 use Rattle.sets.specs.Sets.{any}
 use Rattle.records.specs.Words.{words}
-use Rattle.records.specs.Answers.{Marked}
+use Rattle.records.specs.Contracts.{Marked}
 use Rattle.records.proofs.Words.{word-small, words-at, words-none, length-words}
 use Rattle.records.proofs.Lists.{marked, brokenFrom, not-ascending}
 use Rattle.records.proofs.mark_list.Statement.{statement}

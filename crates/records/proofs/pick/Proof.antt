@@ -1,6 +1,7 @@
 -- `records::pick` meets its contract.
 use borrow.Author.Needs.{needs}
-use Rattle.records.specs.Answers.{code, picked}
+use Rattle.records.specs.Answers.{code}
+use Rattle.records.specs.Contracts.{picked}
 use Rattle.records.proofs.pick.Statement.{statement}
 use Rattle.records.proofs.pick.Tie as tie
 

@@ -7,8 +7,7 @@ use borrow.Author.Needs.{needs}
 use borrow.Author.Tests.{ltb-true, ltb-false}
 use denote.Ref.{now}
 use lib.ListN.{length, drop}
-use Rattle.records.specs.Records.{records}
-use Rattle.records.specs.Answers.{placeOf}
+use Rattle.records.specs.Records.{records, placeOf}
 use Rattle.records.proofs.Sections.{place-after}
 use Rattle.records.proofs.Places.{place-pass, place-none, place-end}
 use Rattle.records.proofs.place.Statement.{statement}

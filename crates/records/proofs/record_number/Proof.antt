@@ -7,7 +7,8 @@ use lib.ListN.{length, take, drop, length-drop}
 use denote.Ref.{now}
 use Rattle.records.specs.Words.{word}
 use Rattle.records.specs.Records.{judge, longest, most, cut}
-use Rattle.records.specs.Answers.{code, pickedOf, before}
+use Rattle.records.specs.Answers.{code}
+use Rattle.records.specs.Contracts.{pickedOf, before}
 use Rattle.records.specs.declared.Kind.{Kind}
 use Rattle.records.specs.declared.Kind.the-variants.{Clause, Rule, Goal}
 use Rattle.records.specs.declared.Marks.{Marks}

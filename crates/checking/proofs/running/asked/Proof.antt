@@ -7,8 +7,7 @@ use denote.Ref.{now}
 use lib.ListN.{length, drop}
 use borrow.Author.Needs.{needs}
 use Rattle.records.specs.Words.{word}
-use Rattle.records.specs.Records.{recordOf, records}
-use Rattle.records.specs.Answers.{placeOf}
+use Rattle.records.specs.Records.{recordOf, records, placeOf}
 use Rattle.checking.proofs.Fine
 use Rattle.checking.proofs.running.asked.Statement.{statement}
 use Rattle.checking.proofs.running.asked.Tie as tie

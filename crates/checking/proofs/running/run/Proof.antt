@@ -4,9 +4,8 @@ use mathlib.Core.List.{List}
 use Prim.Native.Nat.{ℕ}
 use native.Mathlib.Omega.{arith}
 use denote.Ref.{now}
-use lib.ListN.{length}
 use borrow.Author.Needs.{needs}
-use Rattle.records.specs.Answers.{AllCut}
+use Rattle.records.specs.Contracts.{AllCut}
 use Rattle.records.specs.declared.Kind.the-variants.{Clause}
 use Rattle.files.specs.Files.{clausesIn}
 use Rattle.files.specs.Answers.{Shaped}
@@ -53,7 +52,7 @@ search-requires c κs =
     let s = c .before .before .before .before .before .before .before .before .before .before .before .before .before .before .before .before .before in
     let began = c .before .before .before .before .before .before .before .before .before .before .begin .ensures in
     let closed = c .before .before .before .before .close-judged .ensures in (
-      record { fine = s .pre .fine; layout = s .pre .layout; room = omega (arith, began .kept .length, s .pre .room); entries = omega (arith, closed .1 .length, s .pre .entries) },
+      record { fine = s .pre .fine; layout = s .pre .layout; room = omega (arith, began .kept .as-long, s .pre .room); entries = omega (arith, closed .1 .as-long, s .pre .entries) },
       begun (model s) _ _ _ _ _ _ (c .before .before .before .before .before .before .before .before .before .before .before .before .initial .ensures) (c .before .before .before .before .before .before .before .clauses .ensures) (began .facts) (closed .0) (closed .1),
     )
 
@@ -84,7 +83,7 @@ same-length-2 c = search needs
 returns : tie.Need-returns
 returns c =
     let closed = c .before .before .before .before .before .before .before .before .before .before .before .before .close-judged .ensures .1 in
-    (c .verdict .ensures, left-from (c .before .before .before .before .before .before .before .before .before .before .before .before .before .before .before .before .before .before .begin .ensures .kept) (closed .length) (closed .beyond) (c .before .before .before .before .before .before .before .search .ensures .left))
+    (c .verdict .ensures, left-from (c .before .before .before .before .before .before .before .before .before .before .before .before .before .before .before .before .before .before .begin .ensures .kept) (closed .as-long) (closed .beyond) (c .before .before .before .before .before .before .before .search .ensures .left))
 
 pub run-spec : {M : Type 1} → statement M
 run-spec =

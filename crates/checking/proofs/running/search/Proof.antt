@@ -19,7 +19,7 @@ use Rattle.records.specs.declared.Kind.the-variants.{Clause, Rule}
 use Rattle.sets.specs.Sets.{_∈_}
 use Rattle.meaning.specs.Run.{find, after}
 use Rattle.facts.specs.Facts.{members}
-use Rattle.records.specs.Answers.{Cut, AllCut}
+use Rattle.records.specs.Contracts.{Cut, AllCut}
 use Rattle.records.proofs.Words.{even-length}
 use Rattle.files.specs.Files.{section, modelOf, traceOf, pairFault, clausesIn, ruleIn}
 use Rattle.closing.specs.Closing.{Filled, Bounded}
@@ -78,7 +78,7 @@ module _ (s : tie.At-search Inv-loop μ-loop Inv-loop2 μ-loop2 Inv-search μ-se
   on = s .search .inv .1
 
   entries : 4096 ≤ length (s .search .table)
-  entries = omega (arith, on .filled .length, start .pre .0 .entries)
+  entries = omega (arith, on .filled .as-long, start .pre .0 .entries)
 
 -- the clauses at hand are the model's
 module _ (s : tie.At-search Inv-loop μ-loop Inv-loop2 μ-loop2 Inv-search μ-search) where
@@ -213,7 +213,7 @@ module _ (e : tie.Else3 Inv-loop μ-loop Inv-loop2 μ-loop2 Inv-search μ-search
       Fine.added-known (model s) (trace s) (fine s) _ f (subst (λ (r : RuleOf). f ∈ r .A) rule-is i)
 
   room : 512 ≤ length (here (e .before) .search .state)
-  room = let s = here (e .before) in omega (arith, on s .kept .length, start s .pre .0 .room)
+  room = let s = here (e .before) in omega (arith, on s .kept .as-long, start s .pre .0 .room)
 
 -- the rounds of the state after the step
 module _ (c : tie.After-slice-known6 Inv-loop μ-loop Inv-loop2 μ-loop2 Inv-search μ-search) where
@@ -378,11 +378,11 @@ search-again c =
 
 same-length : tie.Need-same-length Inv-loop μ-loop Inv-loop2 μ-loop2 Inv-search μ-search
 same-length c =
-    on (at-P (list-at (c .before .before))) .kept .length
+    on (at-P (list-at (c .before .before))) .kept .as-long
 
 same-length-2 : tie.Need-same-length-2 Inv-loop μ-loop Inv-loop2 μ-loop2 Inv-search μ-search
 same-length-2 c =
-    on (at-P (list-at (c .before .before))) .filled .length
+    on (at-P (list-at (c .before .before))) .filled .as-long
 
 returns : tie.Need-returns Inv-loop μ-loop Inv-loop2 μ-loop2 Inv-search μ-search
 returns c =
@@ -395,11 +395,11 @@ returns c =
 
 same-length-3 : tie.Need-same-length-3 Inv-loop μ-loop Inv-loop2 μ-loop2 Inv-search μ-search
 same-length-3 c =
-    on (at-N (list-at2 (c .before .before))) .kept .length
+    on (at-N (list-at2 (c .before .before))) .kept .as-long
 
 same-length-4 : tie.Need-same-length-4 Inv-loop μ-loop Inv-loop2 μ-loop2 Inv-search μ-search
 same-length-4 c =
-    on (at-N (list-at2 (c .before .before))) .filled .length
+    on (at-N (list-at2 (c .before .before))) .filled .as-long
 
 returns-2 : tie.Need-returns-2 Inv-loop μ-loop Inv-loop2 μ-loop2 Inv-search μ-search
 returns-2 c =
@@ -412,11 +412,11 @@ returns-2 c =
 
 same-length-5 : tie.Need-same-length-5 Inv-loop μ-loop Inv-loop2 μ-loop2 Inv-search μ-search
 same-length-5 c =
-    on (here (c .before)) .kept .length
+    on (here (c .before)) .kept .as-long
 
 same-length-6 : tie.Need-same-length-6 Inv-loop μ-loop Inv-loop2 μ-loop2 Inv-search μ-search
 same-length-6 c =
-    on (here (c .before)) .filled .length
+    on (here (c .before)) .filled .as-long
 
 returns-3 : tie.Need-returns-3 Inv-loop μ-loop Inv-loop2 μ-loop2 Inv-search μ-search
 returns-3 c =

@@ -5,8 +5,7 @@ use Prim.Native.Nat.{ℕ, _+_, _≤_}
 use native.Mathlib.Omega.{arith}
 use denote.Ref.{now}
 use lib.ListN.{length, drop, getD}
-use Rattle.records.specs.Records.{recordOf, records}
-use Rattle.records.specs.Answers.{placeOf}
+use Rattle.records.specs.Records.{recordOf, records, placeOf}
 use Rattle.files.specs.Sections.{sectionAt}
 use Rattle.files.specs.Files.{section, traceOf}
 use Rattle.files.specs.Answers.{layoutOf}

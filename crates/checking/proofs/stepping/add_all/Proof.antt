@@ -61,14 +61,14 @@ loop-again c =
     (ap (λ (b : Bool). members (loop .loop .state) g || b) (and-true _)) in
     record {
       within = omega arith;
-      room = omega (arith, added .kept .length);
+      room = omega (arith, added .kept .as-long);
       known = here .1;
       kept = kept-trans (loop .loop .inv .kept) (added .kept);
       facts = λ g. done-one _||_ add-idle add-twice list (loop .loop .state) (c .before .before .add .last .0) at (omega arith) one g ∙ loop .loop .inv .facts g;
     }
 
 same-length : tie.Need-same-length Inv-loop μ-loop
-same-length c = c .before .loop .inv .kept .length
+same-length c = c .before .loop .inv .kept .as-long
 
 returns : tie.Need-returns Inv-loop μ-loop
 returns c =

@@ -7,7 +7,7 @@ use Rattle.meaning.specs.Run.{after}
 use Rattle.files.specs.Files.{ruleIn}
 use borrow.Author.Needs.{needs}
 use Rattle.facts.proofs.Laws.{kept-trans}
-use Rattle.records.specs.Answers.{listCount}
+use Rattle.records.specs.Contracts.{listCount}
 use Rattle.checking.specs.Stepping.{Known}
 use Rattle.checking.proofs.stepping.apply.Statement.{statement}
 use Rattle.checking.proofs.stepping.apply.Tie as tie
@@ -28,7 +28,7 @@ unfolding Known
 add-all-requires c κs =
     let removed = c .before .before .before .before in
     let pre = removed .before .before .before .before .before .pre in
-    (λ f i. pre .1 f (rw (c .before .list-of2 .ensures .facts) at i), omega (arith, removed .remove-all .ensures .kept .length, pre .2))
+    (λ f i. pre .1 f (rw (c .before .list-of2 .ensures .facts) at i), omega (arith, removed .remove-all .ensures .kept .as-long, pre .2))
 
 same-length : tie.Need-same-length
 same-length c = search needs

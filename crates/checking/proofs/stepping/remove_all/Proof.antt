@@ -62,7 +62,7 @@ loop-again c =
     }
 
 same-length : tie.Need-same-length Inv-loop μ-loop
-same-length c = c .before .loop .inv .kept .length
+same-length c = c .before .loop .inv .kept .as-long
 
 returns : tie.Need-returns Inv-loop μ-loop
 returns c =

@@ -6,6 +6,7 @@ ghost use Rattle.files.specs.Answers.{layoutOf, paired, partOf};
 use super::Judged;
 use super::Pair;
 use super::Passed;
+use super::head;
 use super::model;
 use super::trace;
 
@@ -13,19 +14,19 @@ use super::trace;
 pub fn judge_pair(model: &[u8], trace: &[u8]) -> Pair
     ensures { λ r. ⌜ r ≡ paired (pairFault (now (model .entry)) (now (trace .entry))) (layoutOf (now (model .entry))) ⌝ }
 {
-    let model_head = model::head_number(model, 65536);
-    let trace_head = model::head_number(trace, 4096);
+    let model_head = head::head_number(model, 65536);
+    let trace_head = head::head_number(trace, 4096);
     if model_head == 2 {
-        return Pair::Fault(0, model::long_fault(model));
+        return Pair::Fault(0, head::long_fault(model));
     }
     if trace_head == 2 {
-        return Pair::Fault(1, model::long_fault(trace));
+        return Pair::Fault(1, head::long_fault(trace));
     }
     if model_head == 3 {
-        return Pair::Fault(0, model::version_fault(model));
+        return Pair::Fault(0, head::version_fault(model));
     }
     if trace_head == 3 {
-        return Pair::Fault(1, model::version_fault(trace));
+        return Pair::Fault(1, head::version_fault(trace));
     }
     match model::judge_shape(model) {
         Judged::Fault(fault) => Pair::Fault(0, fault),

@@ -1,7 +1,8 @@
 // Reads model and trace files: the first fault of a pair with the bytes at fault, and the sections of a judged model.
-// sections: one section of a file; model: a model's faults; trace: a trace's; both: the pair in document 01's order, and the part at fault;
-// held: what a judged model holds.
+// head: a file's size and version; sections: one section of a file; model: a model's faults; trace: a trace's; both: the pair in document
+// 01's order, and the part at fault; held: what a judged model holds.
 pub mod both;
+pub mod head;
 pub mod held;
 pub mod model;
 pub mod sections;

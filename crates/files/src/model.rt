@@ -2,15 +2,16 @@
 ghost use mathlib.Core.Path.{_≡_};
 ghost use mathlib.Core.Option.{Option·map};
 ghost use Prim.Native.Nat.{_+_, _≤_, _<_};
-ghost use lib.ListN.{length, take};
-ghost use Rattle.records.specs.Records.{_orElse_, firstFault, negated};
+ghost use lib.ListN.{length};
+ghost use Rattle.records.specs.Records.{firstFault, negated};
 ghost use Rattle.records.specs.Contracts.{headIn, AllCut, listCount};
 ghost use Rattle.files.specs.Sections.{moved};
-ghost use Rattle.files.specs.Files.{tooLong, wrongVersion, shapeFault, negatedFault, modelFault};
-ghost use Rattle.files.specs.Answers.{numberOf, layoutOf, judged, Begun, Shaped};
+ghost use Rattle.files.specs.Files.{shapeFault, negatedFault, modelFault};
+ghost use Rattle.files.specs.Answers.{layoutOf, judged, Begun, Shaped};
 use super::Judged;
 use super::Layout;
 use super::Passed;
+use super::head;
 use super::held;
 use super::sections;
 use records::Fault;
@@ -109,54 +110,16 @@ pub fn judge_negated(model: &[u8], layout: Layout) -> Judged
     }
 }
 
-// The number for a file's size and version: 2 or 3, or 0.
-pub fn head_number(file: &[u8], most: usize) -> u8
-    ensures { λ r. ⌜ r ≡ numberOf (tooLong most (now (file .entry)) orElse wrongVersion (now (file .entry))) ⌝ }
-{
-    if most < file.len() {
-        return 2;
-    }
-    if file.len() == 0 {
-        return 3;
-    }
-    if file[0] != 1 {
-        return 3;
-    }
-    0
-}
-
-// The fault of a file over its size: the whole file.
-pub fn long_fault(file: &[u8]) -> Fault
-    ensures { λ r. ⌜ r ≡ record { number = 2; start = 0; size = length (now (file .entry)) } ⌝ }
-{
-    Fault {
-        number: 2,
-        start: 0,
-        size: file.len(),
-    }
-}
-
-// The fault of a wrong version: the first byte, which an empty file lacks.
-pub fn version_fault(file: &[u8]) -> Fault
-    ensures { λ r. ⌜ r ≡ record { number = 3; start = 0; size = length (take 1 (now (file .entry))) } ⌝ }
-{
-    Fault {
-        number: 3,
-        start: 0,
-        size: if file.len() == 0 { 0 } else { 1 },
-    }
-}
-
 // The model by itself: 2, 3, 4 to 7, then 8.
 pub fn judge_model(model: &[u8]) -> Judged
     ensures { λ r. ⌜ r ≡ judged (modelFault (now (model .entry))) (layoutOf (now (model .entry))) ⌝ }
 {
-    let number = head_number(model, 65536);
+    let number = head::head_number(model, 65536);
     if number == 2 {
-        return Judged::Fault(long_fault(model));
+        return Judged::Fault(head::long_fault(model));
     }
     if number == 3 {
-        return Judged::Fault(version_fault(model));
+        return Judged::Fault(head::version_fault(model));
     }
     match judge_shape(model) {
         Judged::Fine(layout) => judge_negated(model, layout),

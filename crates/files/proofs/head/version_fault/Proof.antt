@@ -1,11 +1,11 @@
--- `files::model::version_fault` meets its contract: an empty file has no first byte, and any other has one.
+-- `files::head::version_fault` meets its contract: an empty file has no first byte, and any other has one.
 use Prim.Native.Nat.{ℕ}
 use mathlib.Core.Path.{_≡_}
 use native.Mathlib.Omega.{arith}
 use lib.ListN.{length-take}
 use Rattle.records.specs.declared.Fault.{Fault}
-use Rattle.files.proofs.model.version_fault.Statement.{statement}
-use Rattle.files.proofs.model.version_fault.Tie as tie
+use Rattle.files.proofs.head.version_fault.Statement.{statement}
+use Rattle.files.proofs.head.version_fault.Tie as tie
 
 of-size : {n m : ℕ} → n ≡ m → _≡_ {A = Fault} (record { number = 3; start = 0; size = n }) (record { number = 3; start = 0; size = m })
 of-size e = λ i. record { number = 3; start = 0; size = e i }

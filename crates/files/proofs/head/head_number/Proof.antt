@@ -1,4 +1,4 @@
--- `files::model::head_number` meets its contract: its tests are those of the two faults.
+-- `files::head::head_number` meets its contract: its tests are those of the two faults.
 use native.Mathlib.Omega.{arith}
 use lib.ListN.{List·getD-eq-default}
 use denote.Ref.{now}
@@ -7,8 +7,8 @@ use Rattle.records.specs.Records.{_orElse_}
 use Rattle.files.specs.Files.{tooLong, wrongVersion}
 use Rattle.files.specs.Answers.{numberOf}
 use borrow.Author.Needs.{needs}
-use Rattle.files.proofs.model.head_number.Statement.{statement}
-use Rattle.files.proofs.model.head_number.Tie as tie
+use Rattle.files.proofs.head.head_number.Statement.{statement}
+use Rattle.files.proofs.head.head_number.Tie as tie
 
 returns : tie.Need-returns
 unfolding _orElse_ numberOf tooLong

@@ -51,7 +51,7 @@ not-not : (b : Bool) → not (not b) ≡ b
 not-not true = refl
 not-not false = refl
 
-module _ {cs : List Clause} {S : Facts} {before table : List ℕ} (filled : Filled cs S before table) (few : length cs ≤ 4096) where
+module _ (cs : List Clause) (S : Facts) {before table : List ℕ} (filled : Filled cs S before table) (few : length cs ≤ 4096) where
   -- a known fact has no number exactly if it is outside the closure
   pub outside-is : (f : ℕ) → f < 4096 → outside table f ≡ not (closure cs S f)
   outside-is f h =

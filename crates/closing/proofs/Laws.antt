@@ -19,10 +19,10 @@ use Rattle.sets.proofs.Laws.{is-false, passes, fails}
 use Rattle.meaning.proofs.Theorems.{closure-is-HC, closure-inside, roundNumber-is, roundNumber-outside, roundNumber-le, rounds-is, rounds-bound}
 use Rattle.facts.specs.Facts.{members}
 use Rattle.facts.proofs.Laws.{below-or-from, beyond}
-use Rattle.closing.specs.Closing.{Filled, Bounded, numbered}
+use Rattle.closing.specs.Closing.{Written, Filled, Bounded, numbered}
 
 -- Two tables that closing can leave of one table are the same.
-pub filled-unique : {cs : List Clause} {S : Facts} {before a b : List ℕ} → Filled cs S before a → Filled cs S before b → a ≡ b
+pub filled-unique : {number : ℕ → ℕ} {before a b : List ℕ} → Written number before a → Written number before b → a ≡ b
 filled-unique {a = a} {b = b} p q = ext-getD 0 a b (p .as-long ∙ sym (q .as-long)) (λ f _. ⊎-elim (near f) (far f) (below-or-from f 4096))
   where
     near : (f : ℕ) → f < 4096 → getD a f 0 ≡ getD b f 0
@@ -34,7 +34,7 @@ filled-unique {a = a} {b = b} p q = ext-getD 0 a b (p .as-long ∙ sym (q .as-lo
         (sym (getD-drop 4096 a (f - 4096) 0) ∙ ap (λ (t : List ℕ). getD t (f - 4096) 0) (p .beyond ∙ sym (q .beyond))
         ∙ getD-drop 4096 b (f - 4096) 0)
 
-module _ {cs : List Clause} {S : Facts} {before after : List ℕ} (filled : Filled cs S before after) where
+module _ (cs : List Clause) (S : Facts) {before after : List ℕ} (filled : Filled cs S before after) where
   -- Each of the first 4,096 entries is the fact's round number.
   pub filled-number : (f : ℕ) → f < 4096 → IsRoundNumber cs S f (getD after f 0)
   filled-number f l = rw (filled .entries f l) (roundNumber-is cs S f)
@@ -80,9 +80,9 @@ module _ {cs : List Clause} {S : Facts} {before after : List ℕ} (filled : Fill
       far h = rw (le-ltb f 4096 h) (sym (is-false (λ t. omega (arith, inside f t))))
 
 -- The facts that have a number in the table are the smallest set that holds the state and obeys the clauses.
-pub filled-smallest : {cs : List Clause} {before after : List ℕ} (state : List ℕ) → Filled cs (members state) before after → Bounded cs → HC cs (members state) (numbered after)
-filled-smallest {cs} state filled b =
-    let same = fun-ext (filled-numbered filled b (beyond state)) in
+pub filled-smallest : (cs : List Clause) {before after : List ℕ} (state : List ℕ) → Filled cs (members state) before after → Bounded cs → HC cs (members state) (numbered after)
+filled-smallest cs state filled b =
+    let same = fun-ext (filled-numbered cs (members state) filled b (beyond state)) in
     rw same (closure-is-HC cs (members state))
 
 module _ (cs : List Clause) (S : Facts) (answered : ℕ) (e : answered ≡ rounds cs S) where

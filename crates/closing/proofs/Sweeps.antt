@@ -12,7 +12,8 @@ use borrow.Author.Tests.{lt-leb, eq-eqb, ne-eqb, eqb-true, eqb-false}
 use Rattle.sets.specs.Sets.{Facts, any}
 use Rattle.meaning.specs.Model.{Clause}
 use Rattle.meaning.specs.Rounds.{stands}
-use Rattle.closing.specs.Sweep.{Written, upTo, outside, swept, adds}
+use Rattle.closing.specs.Closing.{Written}
+use Rattle.closing.specs.Sweep.{upTo, outside, swept, adds}
 
 -- After some clauses: these clauses are left, the table is this one, and a head was added or not.
 pub record Sweeping (cs : List Clause) (r : ℕ) (before : List ℕ) (rest : List Clause) (table : List ℕ) (added : Bool) : Type 0 where

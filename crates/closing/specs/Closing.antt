@@ -16,11 +16,15 @@ use Rattle.closing.specs.declared.Closed.{Closed}
 
 -- ---- the round table
 
--- "The first 4,096 table entries hold that state's round numbers .. Anything beyond is unchanged."
-pub record Filled (cs : List Clause) (S : Facts) (before after : List ℕ) : Type 0 where
+-- "The first 4,096 table entries hold" these numbers; "Anything beyond is unchanged."
+pub record Written (number : ℕ → ℕ) (before after : List ℕ) : Type 0 where
   pub as-long : length after ≡ length before
-  pub entries : (f : ℕ) → f < 4096 → getD after f 0 ≡ roundNumber cs S f
+  pub entries : (f : ℕ) → f < 4096 → getD after f 0 ≡ number f
   pub beyond : drop 4096 after ≡ drop 4096 before
+
+-- "that state's round numbers"
+abbrev pub Filled : List Clause → Facts → List ℕ → List ℕ → Type 0
+Filled cs S before after = Written (roundNumber cs S) before after
 
 -- the facts that have a round number in the table
 unfoldable pub numbered : List ℕ → Facts

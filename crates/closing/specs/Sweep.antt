@@ -10,12 +10,6 @@ use Rattle.meaning.specs.Model.{Clause}
 use Rattle.meaning.specs.Rounds.{stands}
 use Rattle.records.specs.Words.{words}
 
--- the first 4,096 entries are these numbers; "Anything beyond is unchanged."
-pub record Written (number : ℕ → ℕ) (before after : List ℕ) : Type 0 where
-  pub as-long : length after ≡ length before
-  pub entries : (f : ℕ) → f < 4096 → getD after f 0 ≡ number f
-  pub beyond : drop 4096 after ≡ drop 4096 before
-
 -- ---- the start
 
 -- "Round 0 is the state.": a stored fact has the number 0, every other none

@@ -14,7 +14,7 @@ use denote.Ref.{now}
 use Rattle.meaning.specs.Rounds.{rounds, round, obeys}
 use Rattle.facts.specs.Facts.{members}
 use Rattle.files.specs.Files.{clausesIn}
-use Rattle.closing.specs.Sweep.{Written}
+use Rattle.closing.specs.Closing.{Written}
 use Rattle.closing.proofs.Rounds.{numberAfter, number-start, swept-is, adds-is, not-last, is-last, number-end, rounds-fit}
 use Rattle.closing.proofs.close_judged.Statement.{statement}
 use Rattle.closing.proofs.close_judged.Tie as tie

@@ -157,11 +157,11 @@ module _ (s : tie.At-search Inv-loop μ-loop Inv-loop2 μ-loop2 Inv-search μ-se
   known-asked-N = Fine.asked-N (model s) (trace s) (fine s) (s .search .step)
 
   by-P : (f : ℕ) → find (outside (s .search .table)) (asked (M s) (Tr s) (s .search .step) .P) ≡ some f → UnmetHere (some f)
-  by-P = unmet-P (on s .filled) (Fine.few-clauses (model s) (trace s) (fine s)) _ _ known-asked-P known-asked-N
+  by-P = unmet-P _ _ (on s .filled) (Fine.few-clauses (model s) (trace s) (fine s)) _ _ known-asked-P known-asked-N
 
   by-N : (o : Option ℕ) → find (outside (s .search .table)) (asked (M s) (Tr s) (s .search .step) .P) ≡ none
       → find (λ f. not (outside (s .search .table) f)) (asked (M s) (Tr s) (s .search .step) .N) ≡ o → UnmetHere o
-  by-N = unmet-N (on s .filled) (Fine.few-clauses (model s) (trace s) (fine s)) _ _ known-asked-P known-asked-N
+  by-N = unmet-N _ _ (on s .filled) (Fine.few-clauses (model s) (trace s) (fine s)) _ _ known-asked-P known-asked-N
 
 -- the fact at hand, along P and along N
 module _ (w : tie.After-word-at Inv-loop μ-loop Inv-loop2 μ-loop2 Inv-search μ-search) where

@@ -16,11 +16,12 @@ use Rattle.records.specs.declared.Fault.{Fault}
 use Rattle.records.specs.declared.Kind.{Kind}
 use Rattle.records.specs.declared.Kind.the-variants as kind
 use Rattle.records.proofs.Words.{length-words}
-use Rattle.files.specs.Sections.{sectionAt, fits, payload, restFault, moved, inSection, leftOver, allOf}
-use Rattle.files.specs.Files.{Blamed, factCount, isHead, tooLong, wrongVersion, sizes, numbers, shapeFault, negatedFault, traceShape, traceCount, lacks, traceNames, traceFault, pairFault}
+use Rattle.sections.specs.Sections.{sectionAt, fits, payload, restFault, moved, inSection, leftOver, allOf, tooLong, wrongVersion, sizes, numbers}
+use Rattle.files.specs.Files.{Blamed, factCount, isHead, shapeFault, negatedFault, traceShape, traceCount, lacks, traceNames, traceFault, pairFault}
 use Rattle.files.specs.Files.Blamed.{model, trace}
-use Rattle.files.proofs.Shaped.{section-fine, fits-within, section-within}
-use Rattle.files.proofs.Parts.{fault-within, fit-ended, ended-size}
+use Rattle.sections.proofs.Fits.{section-fine, fits-within}
+use Rattle.files.proofs.Shaped.{section-within}
+use Rattle.sections.proofs.Parts.{fault-within, fit-ended, ended-size}
 
 -- ---- what there is has a property
 

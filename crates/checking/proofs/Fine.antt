@@ -24,7 +24,7 @@ use Rattle.records.proofs.Places.{place-record, place-le, record-in}
 use Rattle.files.specs.Files.{pairFault, factCount, modelOf, traceOf, section, clausesIn, ruleIn, goalIn}
 use Rattle.files.specs.Answers.{layoutOf, Shaped}
 use Rattle.files.specs.declared.Layout.{Layout}
-use Rattle.files.specs.Sections.{sectionAt}
+use Rattle.sections.specs.Sections.{sectionAt}
 use Rattle.files.proofs.Shaped.{shaped, section-last}
 use Rattle.files.proofs.Order.{section-ends}
 use Rattle.files.proofs.Laws.{facts-bound, initial-below, clauses-cut as section-cut}

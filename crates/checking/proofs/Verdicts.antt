@@ -6,7 +6,7 @@ use borrow.Author.Tests.{eq-eqb, ne-eqb, lt-ltb, le-ltb}
 use lib.ListN.{length, getD}
 use Rattle.meaning.specs.Run.{Outcome}
 use Rattle.records.specs.Records.{records, placeOf}
-use Rattle.files.specs.Sections.{sectionAt}
+use Rattle.sections.specs.Sections.{sectionAt}
 use Rattle.files.specs.Files.{section, traceOf}
 use Rattle.checking.specs.Verdict.{withPart, ran}
 use Rattle.checking.specs.Running.{Ends, numberOf}

@@ -11,7 +11,7 @@ use Rattle.meaning.specs.Run.{Outcome, run}
 use Rattle.facts.specs.Facts.{members, Kept}
 use Rattle.records.specs.Records.{given, _orElse_, records, placeOf}
 use Rattle.records.specs.declared.Fault.{Fault}
-use Rattle.files.specs.Sections.{sectionAt}
+use Rattle.sections.specs.Sections.{sectionAt}
 use Rattle.files.specs.Files.{Blamed, section, modelOf, traceOf, pairFault}
 use Rattle.files.specs.Files.Blamed.{model, trace}
 use Rattle.closing.specs.Closing.{Filled, noRoom}

@@ -17,8 +17,9 @@ use Rattle.facts.specs.Facts.{members, AnyFrom}
 use Rattle.facts.proofs.Laws.{below-or-from, beyond}
 use Rattle.records.specs.Records.{given, _orElse_}
 use Rattle.records.specs.declared.Fault.{Fault}
-use Rattle.files.specs.Files.{section, clausesIn, factCount, modelOf, tooLong, wrongVersion, shapeFault, negatedFault, modelFault}
-use Rattle.files.proofs.Shaped.{neither}
+use Rattle.sections.specs.Sections.{tooLong, wrongVersion}
+use Rattle.files.specs.Files.{section, clausesIn, factCount, modelOf, shapeFault, negatedFault, modelFault}
+use Rattle.sections.proofs.Fits.{neither}
 use Rattle.files.proofs.Laws.{facts-bound, clauses-bound, clause-below}
 use Rattle.closing.specs.Closing.{Filled, Bounded, noRoom, someFrom, refusal, answer, Table, Closes, ClosesFine}
 use Rattle.closing.specs.declared.Closed.{Closed}

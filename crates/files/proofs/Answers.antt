@@ -1,37 +1,16 @@
 -- Laws on answers: what an answer for a section, for a model and for a file's first bytes says of the fault, and the first of several faults.
 use Prim.Native.Nat.{ℕ}
-use mathlib.Core.Path.{_≡_, refl, sym}
-use mathlib.Core.Bool.{Bool, true, false, not}
-use mathlib.Core.List.{List}
+use mathlib.Core.Path.{_≡_, refl}
 use mathlib.Core.Option.{Option, none, some}
 use native.Mathlib.Omega.{arith}
-use lib.Dec.{ltb, eqb}
-use lib.ListN.{length, take, getD}
-use Rattle.records.specs.Records.{given, _orElse_}
+use Rattle.records.specs.Records.{_orElse_}
 use Rattle.records.specs.declared.Fault.{Fault}
-use Rattle.files.specs.Files.{tooLong, wrongVersion}
-use Rattle.files.specs.Answers.{numberOf, passed, judged}
+use Rattle.sections.proofs.Answers.{or-next}
+use Rattle.files.specs.Answers.{judged}
 use Rattle.files.specs.declared.Layout.{Layout}
-use Rattle.files.specs.declared.Passed.{Passed}
 use Rattle.files.specs.declared.Judged.{Judged}
 
 -- ---- a section and a model
-
--- An answer `To` for a section says that nothing is at fault, where the section ends and how many records it has.
-pub passed-to : {r : Passed} (fault : Option Fault) (end count e c : ℕ) → r ≡ passed fault end count → r ≡ Passed.To e c → (fault ≡ none) × (end ≡ e) × (count ≡ c)
-unfolding passed
-passed-to none end count e c is told = (refl, cc, cc)
-passed-to (some f) end count e c is told = let z : _≡_ {A = ℕ} 0 1 = cc in absurd (omega arith)
-
--- So it says how many records.
-pub passed-count : (fault : Option Fault) (end count : ℕ) {e c : ℕ} {r : Passed} → r ≡ passed fault end count → r ≡ Passed.To e c → c ≡ count
-passed-count fault end count is told = sym (passed-to fault end count _ _ is told .2)
-
--- An answer `Fault` says which fault it is.
-pub passed-fault : {r : Passed} (fault : Option Fault) (end count : ℕ) (f : Fault) → r ≡ passed fault end count → r ≡ Passed.Fault f → fault ≡ some f
-unfolding passed
-passed-fault none end count f is told = let z : _≡_ {A = ℕ} 0 1 = cc in absurd (omega arith)
-passed-fault (some g) end count f is told = cc
 
 -- An answer `Fine` for a model says that nothing is at fault, and what its layout is.
 pub judged-fine : {r : Judged} (fault : Option Fault) (l m : Layout) → r ≡ judged fault l → r ≡ Judged.Fine m → (fault ≡ none) × (l ≡ m)
@@ -55,44 +34,6 @@ pub judged-none : (fault : Option Fault) (l m : Layout) → fault ≡ none → m
 unfolding judged
 judged-none fault l m e same = rw (e, same)
 
--- ---- the first of several faults
-
-module _ {ℓ} {A : Type ℓ} (x y : Option A) where
-  -- A first fault is the first of two.
-  pub or-first : (a : A) → x ≡ some a → (x orElse y) ≡ some a
-  unfolding _orElse_
-  or-first a e = rw e
-
-  -- Without it the second is.
-  pub or-next : x ≡ none → (x orElse y) ≡ y
-  unfolding _orElse_
-  or-next e = rw e
-
 -- So the answer for the second is the answer for the two.
 pub judged-next : (x y : Option Fault) (l : Layout) {r : Judged} → x ≡ none → r ≡ judged y l → r ≡ judged (x orElse y) l
 judged-next x y l e answer = rw (or-next x y e) answer
-
--- ---- a file's size and version
-
--- what a number says of two faults, the first with the number 2 and the second with 3
-pub record Told (x y : Option Fault) (f g : Fault) (number : ℕ) : Type 0 where
-  pub two : number ≡ 2 → x ≡ some f
-  pub not-two : (number ≡ 2 → ⊥) → x ≡ none
-  pub three : number ≡ 3 → (x ≡ none) × (y ≡ some g)
-  pub other : (number ≡ 2 → ⊥) → (number ≡ 3 → ⊥) → (x ≡ none) × (y ≡ none)
-
-told : (f g : Fault) → f .number ≡ 2 → g .number ≡ 3 → (a b : Bool) → Told (given a f) (given b g) f g (numberOf (given a f orElse given b g))
-unfolding given _orElse_ numberOf
-told f g is-2 is-3 true b = record { two = λ h. refl; not-two = λ n. absurd (n is-2); three = λ h. absurd (omega arith); other = λ n m. absurd (n is-2) }
-told f g is-2 is-3 false true = record { two = λ h. absurd (omega arith); not-two = λ n. refl; three = λ h. (refl, refl); other = λ n m. absurd (m is-3) }
-told f g is-2 is-3 false false = record { two = λ h. absurd (omega arith); not-two = λ n. refl; three = λ h. absurd (omega arith); other = λ n m. (refl, refl) }
-
--- what the number for a file's size and version says: 2 is the whole file, 3 its first byte
-abbrev pub Head : ℕ → List ℕ → ℕ → Type 0
-Head most file number =
-    Told (tooLong most file) (wrongVersion file) (record { number = 2; start = 0; size = length file }) (record { number = 3; start = 0; size = length (take 1 file) }) number
-
--- The number says that.
-pub head-told : (most : ℕ) (file : List ℕ) {number : ℕ} → number ≡ numberOf (tooLong most file orElse wrongVersion file) → Head most file number
-unfolding tooLong wrongVersion
-head-told most file e = rw e (told _ _ refl refl (ltb most (length file)) (not (eqb (getD file 0 0) 1)))

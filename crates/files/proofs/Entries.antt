@@ -14,11 +14,11 @@ use Rattle.records.specs.Words.{words, odd}
 use Rattle.records.specs.Records.{given, _orElse_}
 use Rattle.records.specs.declared.Fault.{Fault}
 use Rattle.records.proofs.Words.{odd-is, length-words}
-use Rattle.files.specs.Sections.{endAt, sectionAt, fits, payload, restFault, moved, inSection, leftOver, allOf}
+use Rattle.sections.specs.Sections.{endAt, sectionAt, fits, payload, restFault, moved, inSection, leftOver, allOf}
 use Rattle.files.specs.Files.{section, traceOf, traceShape, traceCount, lacks, traceNames, traceFault}
-use Rattle.files.specs.Answers.{passed}
-use Rattle.files.specs.declared.Passed.{Passed}
-use Rattle.files.proofs.Parts.{Ended, fit-fault}
+use Rattle.sections.specs.Answers.{passed}
+use Rattle.sections.specs.declared.Passed.{Passed}
+use Rattle.sections.proofs.Parts.{Ended, fit-fault}
 
 -- ---- the first entry that names what the model lacks
 

@@ -1,5 +1,4 @@
 pub mod Shaped
-pub mod Parts
 pub mod Answers
 pub mod Order
 pub mod Laws

@@ -17,15 +17,17 @@ use Rattle.records.specs.declared.Fault.{Fault}
 use Rattle.records.specs.Contracts.{headIn, AllCut, listCount}
 use Rattle.records.specs.declared.Kind.{Kind}
 use Rattle.records.proofs.Laws.{judged-cut}
-use Rattle.files.specs.Sections.{endAt, sectionAt, payload, moved, inSection, leftOver, allOf}
-use Rattle.files.specs.Files.{section, factCount, clauseOf, sizes, numbers, isHead, shapeFault}
-use Rattle.files.specs.Answers.{passed, layoutOf, judged, Begun}
+use Rattle.sections.specs.Sections.{endAt, sectionAt, payload, moved, inSection, leftOver, allOf, sizes, numbers}
+use Rattle.files.specs.Files.{section, factCount, clauseOf, isHead, shapeFault}
+use Rattle.sections.specs.Answers.{passed}
+use Rattle.files.specs.Answers.{layoutOf, judged, Begun}
 use Rattle.files.specs.declared.Layout.{Layout}
-use Rattle.files.specs.declared.Passed.{Passed}
+use Rattle.sections.specs.declared.Passed.{Passed}
 use Rattle.files.specs.declared.Judged.{Judged}
-use Rattle.files.proofs.Shaped.{neither, not-given, section-fine, payload-part, shaped, section-last}
-use Rattle.files.proofs.Parts.{fit-ended, ended-size, fit-fault}
-use Rattle.files.proofs.Answers.{passed-to, passed-fault}
+use Rattle.sections.proofs.Fits.{neither, not-given, section-fine, payload-part}
+use Rattle.files.proofs.Shaped.{shaped, section-last}
+use Rattle.sections.proofs.Parts.{fit-ended, ended-size, fit-fault}
+use Rattle.sections.proofs.Answers.{passed-to, passed-fault}
 
 -- ---- the sections of a model in order
 

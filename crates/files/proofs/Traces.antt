@@ -19,13 +19,13 @@ use Rattle.records.specs.Records.{_orElse_}
 use Rattle.records.specs.declared.Fault.{Fault}
 use Rattle.records.proofs.Words.{words-two, length-words, even-length}
 use Rattle.records.proofs.Judging.{or-clear}
-use Rattle.files.specs.Sections.{long, endAt, sectionAt, fits, payload, inSection, leftOver}
-use Rattle.files.specs.Files.{Blamed, section, modelOf, traceOf, tooLong, wrongVersion, shapeFault, negatedFault, traceShape, traceCount, lacks, traceNames, traceFault, pairFault}
+use Rattle.sections.specs.Sections.{long, endAt, sectionAt, fits, payload, inSection, leftOver, tooLong, wrongVersion}
+use Rattle.files.specs.Files.{Blamed, section, modelOf, traceOf, shapeFault, negatedFault, traceShape, traceCount, lacks, traceNames, traceFault, pairFault}
 use Rattle.files.specs.Files.Blamed.{model, trace}
 use Rattle.files.specs.Answers.{paired}
 use Rattle.files.specs.declared.Layout.{Layout}
 use Rattle.files.specs.declared.Pair.{Pair}
-use Rattle.files.proofs.Shaped.{neither, not-given, section-fine, nothing-left, fits-within}
+use Rattle.sections.proofs.Fits.{neither, not-given, section-fine, nothing-left, fits-within}
 use Rattle.files.proofs.Order.{all-fine}
 
 -- ---- numbers in bytes

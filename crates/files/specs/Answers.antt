@@ -7,11 +7,10 @@ use lib.ListN.{length, take, drop}
 use Rattle.records.specs.Records.{records, judge, firstFault}
 use Rattle.records.specs.declared.Fault.{Fault}
 use Rattle.records.specs.declared.Kind.the-variants as kind
-use Rattle.files.specs.Sections.{sectionAt, inSection}
-use Rattle.files.specs.Files.{Blamed, section, factCount, sizes, numbers, shapeFault}
+use Rattle.sections.specs.Sections.{sectionAt, inSection, sizes, numbers}
+use Rattle.files.specs.Files.{Blamed, section, factCount, shapeFault}
 use Rattle.files.specs.Files.Blamed.{model, trace}
 use Rattle.files.specs.declared.Layout.{Layout}
-use Rattle.files.specs.declared.Passed.{Passed}
 use Rattle.files.specs.declared.Judged.{Judged}
 use Rattle.files.specs.declared.Pair.{Pair}
 
@@ -28,16 +27,6 @@ layoutOf file = record {
   rulecount = length (records (section file 3));
   goalcount = length (records (section file 4));
 }
-
--- a fault's number as a byte, 0 where there is none
-unfoldable pub numberOf : Option Fault → ℕ
-numberOf none = 0
-numberOf (some f) = f .number
-
--- the answer for one section: its fault, or where it ends and how many records it has
-unfoldable pub passed : Option Fault → ℕ → ℕ → Passed
-passed none end count = Passed.To end count
-passed (some f) end count = Passed.Fault f
 
 -- the answer for a model: its fault, or its layout
 unfoldable pub judged : Option Fault → Layout → Judged

@@ -1,17 +1,17 @@
 -- Models and traces as files: the lists that a file is, and the first fault of a model, of a trace and of a pair (document 01, "File layouts", "Bounds", "Verdict numbers and the order").
 use Prim.Native.Nat.{ℕ, zero, suc, _+_, _*_}
-use mathlib.Core.Bool.{Bool, not, _||_}
+use mathlib.Core.Bool.{Bool, _||_}
 use mathlib.Core.List.{List, map}
 use mathlib.Core.Option.{Option, Option·map}
 use lib.Dec.{leb, ltb, eqb}
-use lib.ListN.{length, take, drop, getD}
+use lib.ListN.{length, drop, getD}
 use Rattle.sets.specs.Sets.{any, first}
 use Rattle.meaning.specs.Model.{Clause, Rule, Goal, Model, Trace}
 use Rattle.records.specs.Words.{word, words, odd}
-use Rattle.records.specs.Records.{given, _orElse_, records, listOf, bare, judge, firstFault, negated}
+use Rattle.records.specs.Records.{given, _orElse_, records, listOf, judge, firstFault, negated}
 use Rattle.records.specs.declared.Fault.{Fault}
 use Rattle.records.specs.declared.Kind.the-variants as kind
-use Rattle.files.specs.Sections.{inSection, leftOver, allOf, payload, sectionAt}
+use Rattle.sections.specs.Sections.{inSection, leftOver, allOf, payload, sectionAt, sizes, numbers, tooLong, wrongVersion}
 
 -- ---- the lists that a file is
 
@@ -62,26 +62,6 @@ unfolding words word section
 traceOf file = record { goal = word (section file 0); steps = words (drop 2 (section file 0)) }
 
 -- ---- the model's faults, in order
-
--- 2: "a file over its size": "the whole file"
-unfoldable pub tooLong : ℕ → List ℕ → Option Fault
-unfolding given
-tooLong most file = given (ltb most (length file)) (record { number = 2; start = 0; size = length file })
-
--- 3: "a file empty, or first byte not 1": "the first byte, or the empty part of an empty file"
-unfoldable pub wrongVersion : List ℕ → Option Fault
-unfolding given
-wrongVersion file = given (not (eqb (getD file 0 0) 1)) (record { number = 3; start = 0; size = length (take 1 file) })
-
--- "sizes: exactly 2 bytes, F" and "F 0 to 4,096"
-unfoldable pub sizes : List ℕ → Option Fault
-unfolding given _orElse_ allOf word
-sizes bytes = allOf (given (not (eqb (length bytes) 2)) 4 orElse given (ltb 4096 (word bytes)) 5) bytes
-
--- a section of bare numbers: "initial facts: 2 bytes each", below F and strictly ascending
-unfoldable pub numbers : ℕ → List ℕ → Option Fault
-unfolding allOf bare
-numbers F bytes = allOf (bare F bytes) bytes
 
 -- "the head of any clause"
 unfoldable pub isHead : List ℕ → ℕ → Bool

@@ -5,10 +5,10 @@ ghost use Rattle.files.specs.Files.{pairFault};
 ghost use Rattle.files.specs.Answers.{layoutOf, paired, partOf};
 use super::Judged;
 use super::Pair;
-use super::Passed;
-use super::head;
 use super::model;
 use super::trace;
+use sections::Passed;
+use sections::head;
 
 // The pair: 2 and 3 of both files, the model's 4 to 7 and 8, the trace's 4, 5 and 9.
 pub fn judge_pair(model: &[u8], trace: &[u8]) -> Pair

@@ -1,11 +1,8 @@
 // Reads model and trace files: the first fault of a pair with the bytes at fault, and the sections of a judged model.
-// head: a file's size and version; sections: one section of a file; model: a model's faults; trace: a trace's; both: the pair in document
-// 01's order, and the part at fault; held: what a judged model holds.
+// model: a model's faults; trace: a trace's; both: the pair in document 01's order, and the part at fault; held: what a judged model holds.
 pub mod both;
-pub mod head;
 pub mod held;
 pub mod model;
-pub mod sections;
 pub mod trace;
 
 use records::Fault;
@@ -20,12 +17,6 @@ pub struct Layout {
     pub end: usize,
     pub rulecount: usize,
     pub goalcount: usize,
-}
-
-// What one section is: fine, with its end and how many records it has, or at fault.
-pub enum Passed {
-    To { end: usize, count: usize },
-    Fault(Fault),
 }
 
 // What a model is.

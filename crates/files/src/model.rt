@@ -5,18 +5,17 @@ ghost use Prim.Native.Nat.{_+_, _≤_, _<_};
 ghost use lib.ListN.{length};
 ghost use Rattle.records.specs.Records.{firstFault, negated};
 ghost use Rattle.records.specs.Contracts.{headIn, AllCut, listCount};
-ghost use Rattle.files.specs.Sections.{moved};
+ghost use Rattle.sections.specs.Sections.{moved};
 ghost use Rattle.files.specs.Files.{shapeFault, negatedFault, modelFault};
 ghost use Rattle.files.specs.Answers.{layoutOf, judged, Begun, Shaped};
 use super::Judged;
 use super::Layout;
-use super::Passed;
-use super::head;
 use super::held;
-use super::sections;
 use records::Fault;
 use records::Found;
 use records::Kind;
+use sections::Passed;
+use sections::head;
 
 // The model's first fault of 4 to 7, or its layout.
 pub fn judge_shape(model: &[u8]) -> Judged

@@ -4,12 +4,11 @@ ghost use Prim.Native.Nat.{_*_};
 ghost use lib.ListN.{length};
 ghost use Rattle.sets.specs.Sets.{first};
 ghost use Rattle.records.specs.Words.{words};
-ghost use Rattle.files.specs.Sections.{endAt};
+ghost use Rattle.sections.specs.Sections.{endAt};
 ghost use Rattle.files.specs.Files.{lacks, traceFault, traceOf};
-ghost use Rattle.files.specs.Answers.{passed};
-use super::Passed;
-use super::sections;
+ghost use Rattle.sections.specs.Answers.{passed};
 use records::Fault;
+use sections::Passed;
 
 // The trace's 4, 5 and 9, or how many steps it has, for a model with so many attack states and rules.
 pub fn judge_trace(trace: &[u8], goals: usize, rules: usize) -> Passed

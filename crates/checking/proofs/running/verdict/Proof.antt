@@ -6,7 +6,7 @@ use native.Mathlib.Omega.{arith}
 use denote.Ref.{now}
 use lib.ListN.{length, drop, getD}
 use Rattle.records.specs.Records.{recordOf, records, placeOf}
-use Rattle.files.specs.Sections.{sectionAt}
+use Rattle.sections.specs.Sections.{sectionAt}
 use Rattle.files.specs.Files.{section, traceOf}
 use Rattle.files.specs.Answers.{layoutOf}
 use Rattle.files.specs.declared.Layout.{Layout}

@@ -6,11 +6,13 @@ use mathlib.Core.Option.{Option, none, Option·map}
 use borrow.Author.Needs.{needs}
 use denote.Ref.{now}
 use Rattle.records.specs.Records.{_orElse_}
-use Rattle.files.specs.Files.{Blamed, tooLong, wrongVersion, shapeFault, negatedFault, traceFault, pairFault}
+use Rattle.sections.specs.Sections.{tooLong, wrongVersion}
+use Rattle.files.specs.Files.{Blamed, shapeFault, negatedFault, traceFault, pairFault}
 use Rattle.files.specs.Files.Blamed.{model, trace}
 use Rattle.files.specs.Answers.{layoutOf, paired}
 use Rattle.files.proofs.Shaped.{layout-counts}
-use Rattle.files.proofs.Answers.{Head, head-told, judged-fine, judged-fault, passed-to, passed-fault}
+use Rattle.sections.proofs.Answers.{Head, head-told, passed-to, passed-fault}
+use Rattle.files.proofs.Answers.{judged-fine, judged-fault}
 use Rattle.files.proofs.both.judge_pair.Statement.{statement}
 use Rattle.files.proofs.both.judge_pair.Tie as tie
 

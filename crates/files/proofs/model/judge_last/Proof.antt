@@ -2,7 +2,8 @@
 use mathlib.Core.Path.{_∙_}
 use denote.Ref.{now}
 use Rattle.records.specs.declared.Kind.the-variants as kind
-use Rattle.files.proofs.Answers.{passed-count, judged-some, judged-none, or-first, or-next}
+use Rattle.sections.proofs.Answers.{passed-count, or-first, or-next}
+use Rattle.files.proofs.Answers.{judged-some, judged-none}
 use Rattle.files.proofs.Order.{judging, Past, section-passed, section-refused, begun-fault, layout-is, left-some, left-none}
 use borrow.Author.Needs.{needs}
 use Rattle.files.proofs.model.judge_last.Statement.{statement}

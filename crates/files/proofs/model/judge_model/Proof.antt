@@ -4,7 +4,8 @@ use mathlib.Core.Option.{none}
 use denote.Ref.{now}
 use Rattle.files.specs.Files.{shapeFault, modelFault}
 use Rattle.files.specs.Answers.{layoutOf, judged}
-use Rattle.files.proofs.Answers.{judged-fine, judged-fault, judged-some, or-first, or-next, Head, head-told}
+use Rattle.sections.proofs.Answers.{or-first, or-next, Head, head-told}
+use Rattle.files.proofs.Answers.{judged-fine, judged-fault, judged-some}
 use borrow.Author.Needs.{needs}
 use Rattle.files.proofs.model.judge_model.Statement.{statement}
 use Rattle.files.proofs.model.judge_model.Tie as tie

@@ -8,13 +8,14 @@ use Rattle.records.specs.Records.{firstFault, negated}
 use Rattle.records.specs.Contracts.{listCount}
 use Rattle.records.specs.declared.Kind.{Kind}
 use Rattle.records.specs.declared.Kind.the-variants as kind
-use Rattle.files.specs.Sections.{sectionAt, inSection}
+use Rattle.sections.specs.Sections.{sectionAt, inSection}
 use Rattle.files.specs.Files.{isHead, negatedFault}
 use Rattle.files.specs.Answers.{layoutOf, judged}
 use Rattle.files.specs.declared.Layout.{Layout}
 use Rattle.files.specs.declared.Judged.{Judged}
 use Rattle.files.proofs.Shaped.{shaped}
-use Rattle.files.proofs.Answers.{judged-fine, judged-fault, judged-some, or-first, judged-next}
+use Rattle.sections.proofs.Answers.{or-first}
+use Rattle.files.proofs.Answers.{judged-fine, judged-fault, judged-some, judged-next}
 use Rattle.files.proofs.Order.{negated-asks, negated-answer}
 use borrow.Author.Needs.{needs}
 use Rattle.files.proofs.model.judge_negated.Statement.{statement}

@@ -6,9 +6,10 @@ use mathlib.Core.Option.{Option}
 use denote.Ref.{now}
 use Rattle.records.specs.declared.Fault.{Fault}
 use Rattle.records.specs.declared.Kind.the-variants as kind
-use Rattle.files.specs.Sections.{sectionAt}
-use Rattle.files.specs.Files.{factCount, sizes, numbers, shapeFault}
-use Rattle.files.proofs.Answers.{judged-some, or-first, or-next}
+use Rattle.sections.specs.Sections.{sectionAt, sizes, numbers}
+use Rattle.files.specs.Files.{factCount, shapeFault}
+use Rattle.sections.proofs.Answers.{or-first, or-next}
+use Rattle.files.proofs.Answers.{judged-some}
 use Rattle.files.proofs.Order.{judging, Past, section-passed, section-refused, sizes-there, facts-at}
 use borrow.Author.Needs.{needs}
 use Rattle.files.proofs.model.judge_shape.Statement.{statement}

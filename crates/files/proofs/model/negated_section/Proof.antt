@@ -6,9 +6,9 @@ use denote.Ref.{now}
 use Rattle.records.specs.Records.{firstFault, negated}
 use Rattle.records.specs.Contracts.{headIn}
 use Rattle.records.proofs.Laws.{found-fine, found-fault}
-use Rattle.files.specs.Sections.{moved}
+use Rattle.sections.specs.Sections.{moved}
 use Rattle.files.specs.Answers.{judged}
-use Rattle.files.proofs.Parts.{fault-within}
+use Rattle.sections.proofs.Parts.{fault-within}
 use borrow.Author.Needs.{needs}
 use Rattle.files.proofs.model.negated_section.Statement.{statement}
 use Rattle.files.proofs.model.negated_section.Tie as tie

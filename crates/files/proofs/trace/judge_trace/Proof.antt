@@ -7,8 +7,8 @@ use native.Mathlib.Omega.{arith}
 use borrow.Author.Needs.{needs}
 use denote.Ref.{now}
 use lib.ListN.{take, drop}
-use Rattle.files.specs.Sections.{payload}
-use Rattle.files.proofs.Parts.{Ended, no-end, some-end, ended-bytes}
+use Rattle.sections.specs.Sections.{payload}
+use Rattle.sections.proofs.Parts.{Ended, no-end, some-end, ended-bytes}
 use Rattle.files.proofs.Entries.{answer-unfit, answer-shape, answer-left, answer-count, Counted, answer-name, answer-fine}
 use Rattle.files.proofs.trace.judge_trace.Statement.{statement}
 use Rattle.files.proofs.trace.judge_trace.Tie as tie

@@ -1,0 +1,101 @@
+-- `sections::records_section` meets its contract: the section doesn't fit, or what `first_fault` finds in its bytes stands at its place in the file.
+use Prim.Native.Nat.{ℕ}
+use mathlib.Core.Path.{_≡_, _∙_, sym}
+use mathlib.Core.List.{List}
+use mathlib.Core.Option.{Option, some}
+use native.Mathlib.Omega.{arith}
+use lib.ListN.{length}
+use denote.Ref.{now}
+use Rattle.records.specs.Records.{records, firstFault, judge}
+use Rattle.records.specs.declared.Fault.{Fault}
+use Rattle.records.specs.Answers.{found}
+use Rattle.records.proofs.Laws.{found-fine, found-fault}
+use Rattle.sections.specs.Sections.{payload, moved}
+use Rattle.sections.proofs.Parts.{Ended, some-end, ended-bytes, ended-size, unfit-answer, fine-answer, fault-answer, fault-within}
+use borrow.Author.Needs.{needs}
+use Rattle.sections.proofs.records_section.Statement.{statement}
+use Rattle.sections.proofs.records_section.Tie as tie
+
+-- where the section ends, once its length is known to fit
+ended : (c : tie.Else1) → Ended (now (c .before .before .before .args .file)) (c .before .before .before .args .at) (c .before .section-end .result)
+ended c = some-end _ _ _ (c .before .section-end .ensures) (c .if1 .left)
+
+section-end-requires : tie.Need-section-end-requires
+section-end-requires c κs = search needs
+
+rest-fault-requires : tie.Need-rest-fault-requires
+rest-fault-requires c κs = search needs
+
+returns : tie.Need-returns
+returns c = unfit-answer _ _ _ _ _ (c .before .before .section-end .ensures) (c .before .if1 .taken) (c .rest-fault .ensures)
+
+add-by : tie.Need-add-by
+add-by c = omega (arith, ended c)
+
+sub-first-fault : tie.Need-sub-first-fault
+sub-first-fault c = omega (arith, ended c)
+
+part-first-fault-start : tie.Need-part-first-fault-start
+part-first-fault-start c = omega (arith, ended c)
+
+part-first-fault-end : tie.Need-part-first-fault-end
+part-first-fault-end c = omega (arith, ended c)
+
+first-fault-requires : tie.Need-first-fault-requires
+first-fault-requires c κs = search needs
+
+enum-known-count : tie.Need-enum-known-count
+enum-known-count c = search needs
+
+enum-known-fault : tie.Need-enum-known-fault
+enum-known-fault c = search needs
+
+-- the section's bytes
+abbrev bytes : tie.Else1 → List ℕ
+bytes c = let args = c .before .before .before .args in payload (now (args .file)) (args .at)
+
+-- what is at fault in them
+abbrev fault : tie.Else1 → Option Fault
+fault c = let args = c .before .before .before .args in firstFault (judge (args .kind) (args .facts)) (bytes c)
+
+-- what was found is what is at fault
+read : (c : tie.After-first-fault) → c .first-fault .result ≡ found (fault (c .before .before)) (length (records (bytes (c .before .before))))
+read c = rw (ended-bytes _ _ _ (ended (c .before .before))) at (c .first-fault .ensures)
+
+-- the fault, where one was found
+read-fault : (c : tie.After-fault)
+    → fault (c .before .before .before .before) ≡ some (c .fault .given .0 .0)
+read-fault c = found-fault _ _ _ (sym (read (c .before .before)) ∙ c .fault .given .1)
+
+add-start : tie.Need-add-start
+add-start c =
+    let test = c .before .before .before .before .before .before in
+    omega (arith, ended test, ended-size _ _ _ (ended test), fault-within _ _ _ (read-fault (c .before .before)))
+
+returns-2 : tie.Need-returns-2
+returns-2 c =
+    let test = c .before .before .before .before .before in
+    let fine = found-fine _ _ _ (sym (read (c .before .before .before)) ∙ c .before .count .given .1) in
+    rw (fine .1) (fine-answer _ _ _ _ _ (ended test) (fine .0))
+
+returns-3 : tie.Need-returns-3
+unfolding moved
+returns-3 c = fault-answer _ _ _ _ _ _ (ended (c .before .before .before .before .before .before)) (read-fault (c .before .before))
+
+pub records-section-spec : {M : Type 1} → statement M
+records-section-spec =
+    tie.close
+    (tie.spec
+    section-end-requires
+    rest-fault-requires
+    returns
+    add-by
+    sub-first-fault
+    part-first-fault-start
+    part-first-fault-end
+    first-fault-requires
+    enum-known-count
+    enum-known-fault
+    add-start
+    returns-2
+    returns-3)

@@ -1,0 +1,135 @@
+// One section of a file: its length, and the answer for its bytes. head: a file's size and version.
+ghost use mathlib.Core.Path.{_≡_};
+ghost use mathlib.Core.Bool.{not, cond};
+ghost use mathlib.Core.Option.{some};
+ghost use Prim.Native.Nat.{_+_, _-_, _≤_};
+ghost use lib.Dec.{eqb};
+ghost use lib.ListN.{length, drop};
+ghost use Rattle.records.specs.Records.{given, records, firstFault, judge};
+ghost use Rattle.sections.specs.Sections.{long, endAt, fits, payload, inSection, restFault, sizes, numbers};
+ghost use Rattle.sections.specs.Answers.{numberOf, passed};
+
+pub mod head;
+
+use records::Fault;
+use records::Found;
+use records::Kind;
+
+// What one section is: fine, with its end and how many records it has, or at fault.
+pub enum Passed {
+    To { end: usize, count: usize },
+    Fault(Fault),
+}
+
+// The 4-byte number at a place. The caller has seen that the bytes are there.
+fn long_at(file: &[u8], at: usize) -> usize
+    requires { ⌜ at + 4 ≤ length (now file) ⌝ }
+    ensures { λ r. ⌜ r ≡ long (drop at (now (file .entry))) ⌝ }
+{
+    let high = records::word_at(file, at);
+    let low = records::word_at(file, at + 2);
+    high * 65536 + low
+}
+
+// Where the section whose length stands at a place ends; 0 where that length is missing or doesn't fit.
+pub fn section_end(file: &[u8], at: usize) -> usize
+    ensures { λ r. ⌜ r ≡ cond (fits (now (file .entry)) at) (endAt (now (file .entry)) at) 0 ⌝ }
+{
+    if file.len() < 4 || file.len() - 4 < at {
+        return 0;
+    }
+    let start = at + 4;
+    let size = long_at(file, at);
+    if file.len() - start < size {
+        return 0;
+    }
+    start + size
+}
+
+// The fault of a section's length that doesn't fit: the rest of the file.
+pub fn rest_fault(file: &[u8], at: usize) -> Passed
+    ensures { λ r. ⌜ r ≡ passed (some (restFault (now (file .entry)) at)) 0 0 ⌝ }
+{
+    let mut size = 0;
+    if at < file.len() {
+        size = file.len() - at;
+    }
+    Passed::Fault(Fault {
+        number: 4,
+        start: at,
+        size,
+    })
+}
+
+// The answer for a section whose bytes are judged as one record: its number is for all of them.
+fn whole_section(number: u8, at: usize, end: usize) -> Passed
+    requires { ⌜ at + 4 ≤ end ⌝ }
+    ensures { λ r. ⌜ r ≡ passed (given (not (eqb number 0)) (record { number = number; start = at + 4; size = end - (at + 4) })) end 0 ⌝ }
+{
+    if number == 0 {
+        return Passed::To { end, count: 0 };
+    }
+    Passed::Fault(Fault {
+        number,
+        start: at + 4,
+        size: end - (at + 4),
+    })
+}
+
+// The number for the sizes: 4 or 5, or 0.
+fn sizes_number(bytes: &[u8]) -> u8
+    ensures { λ r. ⌜ r ≡ numberOf (sizes (now (bytes .entry))) ⌝ }
+{
+    if bytes.len() != 2 {
+        return 4;
+    }
+    if 4096 < records::word_at(bytes, 0) {
+        return 5;
+    }
+    0
+}
+
+// The sizes, which are the first section.
+pub fn sizes_section(file: &[u8]) -> Passed
+    ensures { λ r. ⌜ r ≡ passed (inSection sizes (now (file .entry)) 1) (endAt (now (file .entry)) 1) 0 ⌝ }
+{
+    let end = section_end(file, 1);
+    if end == 0 {
+        return rest_fault(file, 1);
+    }
+    whole_section(sizes_number(&file[5..end]), 1, end)
+}
+
+// A section of facts: the initial facts.
+pub fn numbers_section(file: &[u8], at: usize, facts: usize) -> Passed
+    ensures { λ r. ⌜ r ≡ passed (inSection (numbers facts) (now (file .entry)) at) (endAt (now (file .entry)) at) 0 ⌝ }
+{
+    let end = section_end(file, at);
+    if end == 0 {
+        return rest_fault(file, at);
+    }
+    let start = at + 4;
+    whole_section(records::numbers_number(&file[start..end], facts), at, end)
+}
+
+// A section of records.
+pub fn records_section(file: &[u8], at: usize, kind: Kind, facts: usize) -> Passed
+    ensures { λ r. ⌜ r ≡ passed (inSection (firstFault (judge kind facts)) (now (file .entry)) at) (endAt (now (file .entry)) at) (length (records (payload (now (file .entry)) at))) ⌝ }
+{
+    let end = section_end(file, at);
+    if end == 0 {
+        return rest_fault(file, at);
+    }
+    let by = at + 4;
+    match records::first_fault(&file[by..end], kind, facts) {
+        Found::Fine(count) => Passed::To { end, count },
+        Found::Fault(fault) => {
+            let start = by + fault.start;
+            Passed::Fault(Fault {
+                number: fault.number,
+                start,
+                size: fault.size,
+            })
+        }
+    }
+}

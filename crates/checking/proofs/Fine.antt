@@ -16,10 +16,10 @@ use Rattle.meaning.proofs.Theorems.{rounds-bound, missingHeads-bound}
 use Rattle.facts.proofs.Laws.{below-or-from}
 use Rattle.records.specs.Words.{word}
 use Rattle.records.specs.Records.{recordOf, records, whole, cut, listsOf, listOf, judge, firstFault, placeOf}
-use Rattle.records.specs.Contracts.{Cut, AllCut}
+use Rattle.lists.specs.Lists.{Cut, AllCut}
 use Rattle.records.specs.declared.Kind.{Kind}
 use Rattle.records.specs.declared.Kind.the-variants as kind
-use Rattle.records.proofs.Laws.{judged-cut, judged-facts}
+use Rattle.lists.proofs.Laws.{judged-cut, judged-facts}
 use Rattle.records.proofs.Places.{place-record, place-le, record-in}
 use Rattle.files.specs.Files.{pairFault, factCount, modelOf, traceOf, section, clausesIn, ruleIn, goalIn}
 use Rattle.files.specs.Answers.{layoutOf, Shaped}

@@ -21,7 +21,7 @@ use Rattle.files.specs.Files.{section, clausesIn, modelOf, traceOf}
 use Rattle.closing.specs.Closing.{Filled}
 use Rattle.checking.specs.Stepping.{Known}
 use Rattle.checking.specs.Verdict.{outcome, Left}
-use Rattle.records.specs.Contracts.{listCount}
+use Rattle.lists.specs.Lists.{listCount}
 use Rattle.sets.proofs.Laws.{by-test}
 use Rattle.checking.specs.Running.{Begun, EndsAt, numberOf, kindAt}
 use Rattle.checking.specs.declared.running.Ended.{Ended}

@@ -13,7 +13,7 @@ use Rattle.meaning.specs.Rounds.{rounds, roundNumber}
 use Rattle.facts.specs.Facts.{members}
 use Rattle.records.specs.declared.Kind.{Kind}
 use Rattle.records.specs.declared.Kind.the-variants.{Rule, Goal}
-use Rattle.records.specs.Contracts.{Cut}
+use Rattle.lists.specs.Lists.{Cut}
 use Rattle.records.specs.Records.{listOf}
 use Rattle.files.specs.Files.{pairFault, factCount, modelOf, traceOf, ruleIn}
 use Rattle.files.specs.Answers.{layoutOf}

@@ -73,7 +73,7 @@ fn search(
     'search: loop {
         let record = asked(model, trace, layout, step, steps);
         let kind = kind_at(step, steps);
-        let p = records::list_of(record, kind, 0);
+        let p = lists::list_of(record, kind, 0);
         let mut at = 0;
         while at < p.len() {
             let f = records::word_at(p, at);
@@ -83,7 +83,7 @@ fn search(
             }
             at += 2;
         }
-        let n = records::list_of(record, kind, 1);
+        let n = lists::list_of(record, kind, 1);
         at = 0;
         while at < n.len() {
             let f = records::word_at(n, at);

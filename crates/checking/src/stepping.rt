@@ -7,7 +7,7 @@ ghost use Rattle.meaning.specs.Run.{after};
 ghost use Rattle.facts.specs.Facts.{members};
 ghost use Rattle.records.specs.Words.{words};
 ghost use Rattle.records.specs.Records.{listOf};
-ghost use Rattle.records.specs.Contracts.{Cut};
+ghost use Rattle.lists.specs.Lists.{Cut};
 ghost use Rattle.records.specs.declared.Kind.{Kind};
 ghost use Rattle.files.specs.Files.{ruleIn};
 ghost use Rattle.checking.specs.Stepping.{Holds, Known};
@@ -50,6 +50,6 @@ pub fn apply(rule: &[u8], state: &mut [u8])
     requires { ⌜ Cut Kind.Rule (now rule) × ((f : ℕ) → f ∈ listOf Kind.Rule (now rule) 2 → f < 4096) × (512 ≤ length (now state)) ⌝ }
     ensures { λ _. ⌜ Holds (now (state .entry)) (now (state .exit)) (after (ruleIn (now (rule .entry))) (members (now (state .entry)))) ⌝ }
 {
-    remove_all(records::list_of(rule, Kind::Rule, 0), state);
-    add_all(records::list_of(rule, Kind::Rule, 2), state);
+    remove_all(lists::list_of(rule, Kind::Rule, 0), state);
+    add_all(lists::list_of(rule, Kind::Rule, 2), state);
 }

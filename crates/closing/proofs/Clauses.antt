@@ -12,7 +12,7 @@ use borrow.Author.Tests.{leb-true, leb-false, ltb-false, eqb-true}
 use Rattle.meaning.specs.Model.{Clause}
 use Rattle.records.specs.Words.{word, words, odd}
 use Rattle.records.specs.Records.{recordOf, whole, cut, cutClause, listsOf}
-use Rattle.records.specs.Contracts.{Cut, AllCut}
+use Rattle.lists.specs.Lists.{Cut, AllCut}
 use Rattle.records.specs.declared.Kind.{Kind}
 use Rattle.records.proofs.Words.{even-length}
 use Rattle.records.proofs.Sections.{record-fits, record-rest, records-at}

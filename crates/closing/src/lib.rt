@@ -9,7 +9,7 @@ ghost use Rattle.sets.specs.Sets.{every};
 ghost use Rattle.meaning.specs.Rounds.{rounds};
 ghost use Rattle.facts.specs.Facts.{members};
 ghost use Rattle.records.specs.Words.{word, words};
-ghost use Rattle.records.specs.Contracts.{AllCut};
+ghost use Rattle.lists.specs.Lists.{AllCut};
 ghost use Rattle.records.specs.declared.Kind.{Kind};
 ghost use Rattle.files.specs.Files.{clausesIn};
 ghost use Rattle.files.specs.Answers.{Shaped};

@@ -11,9 +11,9 @@ use Rattle.sets.specs.Sets.{_∈_}
 use Rattle.meaning.specs.Model.{Clause, Rule, Goal}
 use Rattle.records.specs.Words.{word, words, odd, ascending}
 use Rattle.records.specs.Records.{records, listsOf, listOf, whole, cut, cutClause, most}
-use Rattle.records.specs.Contracts.{Cut, AllCut}
+use Rattle.lists.specs.Lists.{Cut, AllCut}
 use Rattle.records.specs.declared.Kind.the-variants as kind
-use Rattle.records.proofs.Laws.{judged-count, judged-facts, judged-cut}
+use Rattle.lists.proofs.Laws.{judged-count, judged-facts, judged-cut}
 use Rattle.files.specs.Files.{section, factCount, clauseOf, ruleIn, goalIn, modelOf, shapeFault, modelFault}
 use Rattle.files.specs.Answers.{layoutOf, judged}
 use Rattle.files.specs.declared.Judged.{Judged}

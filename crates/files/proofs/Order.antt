@@ -14,9 +14,9 @@ use Rattle.sets.proofs.Laws.{is-false, fails, any-intro}
 use Rattle.records.specs.Words.{word, words, odd, ascending}
 use Rattle.records.specs.Records.{given, _orElse_, records, bare, judge, firstFault, negated}
 use Rattle.records.specs.declared.Fault.{Fault}
-use Rattle.records.specs.Contracts.{headIn, AllCut, listCount}
+use Rattle.lists.specs.Lists.{headIn, AllCut, listCount}
 use Rattle.records.specs.declared.Kind.{Kind}
-use Rattle.records.proofs.Laws.{judged-cut}
+use Rattle.lists.proofs.Laws.{judged-cut}
 use Rattle.sections.specs.Sections.{endAt, sectionAt, payload, moved, inSection, leftOver, allOf, sizes, numbers}
 use Rattle.files.specs.Files.{section, factCount, clauseOf, isHead, shapeFault}
 use Rattle.sections.specs.Answers.{passed}

@@ -4,7 +4,7 @@ ghost use mathlib.Core.Option.{Option·map};
 ghost use Prim.Native.Nat.{_+_, _≤_, _<_};
 ghost use lib.ListN.{length};
 ghost use Rattle.records.specs.Records.{firstFault, negated};
-ghost use Rattle.records.specs.Contracts.{headIn, AllCut, listCount};
+ghost use Rattle.lists.specs.Lists.{headIn, AllCut, listCount};
 ghost use Rattle.sections.specs.Sections.{moved};
 ghost use Rattle.files.specs.Files.{shapeFault, negatedFault, modelFault};
 ghost use Rattle.files.specs.Answers.{layoutOf, judged, Begun, Shaped};
@@ -81,7 +81,7 @@ fn negated_section(section: &[u8], at: usize, kind: Kind, clauses: &[u8], layout
     requires { ⌜ (AllCut kind (now section)) × (1 < listCount kind) × (AllCut Kind.Clause (now clauses)) × (at + 4 + length (now section) ≤ layout .end) ⌝ }
     ensures { λ r. ⌜ r ≡ judged (Option·map (moved (at + 4)) (firstFault (negated kind (headIn (now (clauses .entry)))) (now (section .entry)))) layout ⌝ }
 {
-    match records::first_negated(section, kind, clauses) {
+    match lists::first_negated(section, kind, clauses) {
         Found::Fine(_) => Judged::Fine(layout),
         Found::Fault(fault) => {
             let by = at + 4;

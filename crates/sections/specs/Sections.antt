@@ -1,4 +1,5 @@
--- Sections of a file: where each stands, what it holds, and its first fault (document 01, "File layouts" and "the bytes at fault").
+-- Sections of a file: where each stands, what it holds, and its first fault; a file's size and version (document 01, "File layouts", "Bounds" and
+-- "the bytes at fault").
 use Prim.Native.Nat.{ℕ, zero, suc, _+_, _-_, _*_}
 use mathlib.Core.Bool.{Bool, not, cond}
 use mathlib.Core.List.{List}

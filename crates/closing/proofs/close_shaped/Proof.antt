@@ -5,7 +5,7 @@ use mathlib.Core.List.{List}
 use denote.Ref.{now}
 use borrow.Author.Needs.{needs}
 use Rattle.facts.specs.Facts.{members}
-use Rattle.records.specs.Contracts.{AllCut}
+use Rattle.lists.specs.Lists.{AllCut}
 use Rattle.records.specs.declared.Kind.the-variants.{Clause}
 use Rattle.files.specs.Files.{factCount, clausesIn, modelOf}
 use Rattle.files.specs.Answers.{layoutOf}

@@ -11,7 +11,7 @@ use denote.Ref.{now}
 use Rattle.meaning.specs.Model.{Clause}
 use Rattle.meaning.specs.Rounds.{stands}
 use Rattle.records.specs.Words.{word}
-use Rattle.records.specs.Contracts.{AllCut}
+use Rattle.lists.specs.Lists.{AllCut}
 use Rattle.records.specs.declared.Kind.{Kind}
 use Rattle.records.proofs.Sections.{rest-of, records-end}
 use Rattle.files.specs.Files.{clauseOf, clausesIn}

@@ -5,7 +5,7 @@ use Prim.Native.Nat.{ℕ}
 use native.Mathlib.Omega.{arith}
 use denote.Ref.{now}
 use borrow.Author.Needs.{needs}
-use Rattle.records.specs.Contracts.{AllCut}
+use Rattle.lists.specs.Lists.{AllCut}
 use Rattle.records.specs.declared.Kind.the-variants.{Clause}
 use Rattle.files.specs.Files.{clausesIn}
 use Rattle.files.specs.Answers.{Shaped}

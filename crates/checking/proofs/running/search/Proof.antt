@@ -19,7 +19,7 @@ use Rattle.records.specs.declared.Kind.the-variants.{Clause, Rule}
 use Rattle.sets.specs.Sets.{_∈_}
 use Rattle.meaning.specs.Run.{find, after}
 use Rattle.facts.specs.Facts.{members}
-use Rattle.records.specs.Contracts.{Cut, AllCut}
+use Rattle.lists.specs.Lists.{Cut, AllCut}
 use Rattle.records.proofs.Words.{even-length}
 use Rattle.files.specs.Files.{section, modelOf, traceOf, pairFault, clausesIn, ruleIn}
 use Rattle.closing.specs.Closing.{Filled, Bounded}

@@ -7,7 +7,7 @@ use Rattle.meaning.specs.Run.{after}
 use Rattle.files.specs.Files.{ruleIn}
 use borrow.Author.Needs.{needs}
 use Rattle.facts.proofs.Laws.{kept-trans}
-use Rattle.records.specs.Contracts.{listCount}
+use Rattle.lists.specs.Lists.{listCount}
 use Rattle.checking.specs.Stepping.{Known}
 use Rattle.checking.proofs.stepping.apply.Statement.{statement}
 use Rattle.checking.proofs.stepping.apply.Tie as tie

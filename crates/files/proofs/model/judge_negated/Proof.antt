@@ -5,7 +5,7 @@ use mathlib.Core.List.{List}
 use lib.Dec.{lit<}
 use denote.Ref.{now}
 use Rattle.records.specs.Records.{firstFault, negated}
-use Rattle.records.specs.Contracts.{listCount}
+use Rattle.lists.specs.Lists.{listCount}
 use Rattle.records.specs.declared.Kind.{Kind}
 use Rattle.records.specs.declared.Kind.the-variants as kind
 use Rattle.sections.specs.Sections.{sectionAt, inSection}

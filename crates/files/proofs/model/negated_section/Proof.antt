@@ -4,7 +4,7 @@ use mathlib.Core.Option.{some}
 use native.Mathlib.Omega.{arith}
 use denote.Ref.{now}
 use Rattle.records.specs.Records.{firstFault, negated}
-use Rattle.records.specs.Contracts.{headIn}
+use Rattle.lists.specs.Lists.{headIn}
 use Rattle.records.proofs.Laws.{found-fine, found-fault}
 use Rattle.sections.specs.Sections.{moved}
 use Rattle.files.specs.Answers.{judged}

@@ -6,10 +6,10 @@ use mathlib.Core.List.{List, [], _∷_}
 use lib.Dec.{eqb}
 use lib.ListN.{length, drop}
 use Rattle.sets.specs.Sets.{any, listed}
 use Rattle.records.specs.Words.{word}
 use Rattle.records.specs.Records.{recordOf}
-use Rattle.records.specs.Contracts.{headIn}
+use Rattle.lists.specs.Lists.{headIn}
 use Rattle.records.proofs.Sections.{records-at, records-end}
 
 -- No entry passes a test that always fails.
 any-none {ℓ} : {A : Type ℓ} (xs : List A) → any (λ (x : A). false) xs ≡ false

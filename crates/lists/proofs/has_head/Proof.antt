@@ -6,14 +6,15 @@ use borrow.Author.Needs.{needs}
 use denote.Ref.{now}
 use lib.ListN.{length, drop}
 use Rattle.sets.specs.Sets.{any, listed}
 use Rattle.records.specs.Words.{word, words}
-use Rattle.records.specs.Contracts.{headIn, AllCut}
+use Rattle.lists.specs.Lists.{headIn, AllCut}
 use Rattle.records.specs.declared.Kind.{Kind}
 use Rattle.records.proofs.Words.{words-none}
-use Rattle.records.proofs.Cuts.{Here, record-here, clause-size}
-use Rattle.records.proofs.Heads.{heads-here, heads-later, heads-end}
-use Rattle.records.proofs.has_head.Statement.{statement}
-use Rattle.records.proofs.has_head.Tie as tie
+use Rattle.lists.proofs.Cuts.{Here}
+use Rattle.lists.proofs.Cuts.{record-here, clause-size}
+use Rattle.lists.proofs.Heads.{heads-here, heads-later, heads-end}
+use Rattle.lists.proofs.has_head.Statement.{statement}
+use Rattle.lists.proofs.has_head.Tie as tie
 
 abbrev Inv-loop : tie.InvT-loop
 Inv-loop list clauses at₀ at =

@@ -10,14 +10,14 @@ use borrow.Author.Tests.{leb-true, ltb-false}
 use lib.Dec.{leb, ltb}
 use lib.ListN.{length, take, drop, getD, length-drop}
 use lib.Seq.{length-take-le}
 use Rattle.records.specs.Words.{word, words, odd}
 use Rattle.records.specs.Records.{recordOf, cutLists, cutClause, cut, whole, listsOf, listOf}
-use Rattle.records.specs.Contracts.{Cut, AllCut, listCount}
+use Rattle.lists.specs.Lists.{Cut, AllCut, listCount}
 use Rattle.records.specs.declared.Kind.{Kind}
 use Rattle.records.specs.declared.Kind.the-variants.{Clause, Rule, Goal}
 use Rattle.records.proofs.Words.{odd-length}
 use Rattle.records.proofs.Judging.{or-clear}
 use Rattle.records.proofs.Sections.{records-at, place-after}
 
 -- something behind a test that has to hold: the test holds
 behind : {A : Type 0} {y : A} (test : Bool) (x : Option A) → cond test x none ≡ some y → (test ≡ true) × (x ≡ some y)

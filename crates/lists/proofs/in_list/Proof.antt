@@ -9,10 +9,10 @@ use denote.Ref.{now}
 use lib.Dec.{eqb}
 use lib.ListN.{length, drop, length-drop}
 use Rattle.sets.specs.Sets.{any, listed}
 use Rattle.records.specs.Words.{words}
 use Rattle.records.proofs.Words.{words-at, words-none}
-use Rattle.records.proofs.in_list.Statement.{statement}
-use Rattle.records.proofs.in_list.Tie as tie
+use Rattle.lists.proofs.in_list.Statement.{statement}
+use Rattle.lists.proofs.in_list.Tie as tie
 
 abbrev Inv-loop : tie.InvT-loop
 Inv-loop list f at₀ at = (at ≤ length list) × (listed (words list) f ≡ listed (words (drop at list)) f)

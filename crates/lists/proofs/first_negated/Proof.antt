@@ -7,13 +7,14 @@ use borrow.Author.Needs.{needs}
 use denote.Ref.{now}
 use lib.ListN.{length, drop}
 use Rattle.sets.specs.Sets.{any}
 use Rattle.records.specs.Records.{records, given, negated, firstFault}
 use Rattle.records.specs.Answers.{found}
-use Rattle.records.specs.Contracts.{headIn, AllCut}
+use Rattle.lists.specs.Lists.{headIn, AllCut}
 use Rattle.records.proofs.Sections.{answerFrom, answer-start, answer-fault, answer-next, answer-end}
-use Rattle.records.proofs.Cuts.{Here, record-here}
-use Rattle.records.proofs.first_negated.Statement.{statement}
-use Rattle.records.proofs.first_negated.Tie as tie
+use Rattle.lists.proofs.Cuts.{Here}
+use Rattle.lists.proofs.Cuts.{record-here}
+use Rattle.lists.proofs.first_negated.Statement.{statement}
+use Rattle.lists.proofs.first_negated.Tie as tie
 
 abbrev Inv-loop : tie.InvT-loop
 Inv-loop section kind clauses at₀ n₀ at n =

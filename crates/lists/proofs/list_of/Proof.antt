@@ -6,11 +6,11 @@ use native.Mathlib.Omega.{arith}
 use denote.Ref.{now}
 use lib.ListN.{length, take, drop, length-drop}
 use lib.Seq.{drop-drop}
 use Rattle.records.specs.Words.{word, words, odd}
 use Rattle.records.specs.Records.{listOf}
-use Rattle.records.proofs.Cuts.{Ahead, ahead-fits, ahead-next, ahead-here, list-ahead}
-use Rattle.records.proofs.list_of.Statement.{statement}
-use Rattle.records.proofs.list_of.Tie as tie
+use Rattle.lists.proofs.Cuts.{Ahead, ahead-fits, ahead-next, ahead-here, list-ahead}
+use Rattle.lists.proofs.list_of.Statement.{statement}
+use Rattle.lists.proofs.list_of.Tie as tie
 
 abbrev Inv-loop : tie.InvT-loop
 Inv-loop whole j at₀ left₀ at left = (facts : List ℕ) → Ahead left₀ (drop at₀ whole) facts → Ahead left (drop at whole) facts

@@ -165,7 +165,7 @@ static int fails(const char *variable, int call) {
 
 ssize_t read(int fd, void *to, size_t most) {
     static int calls;
-    return fails("FAIL_AT", ++calls) ? -1 : syscall(SYS_read, fd, to, most < 7 ? most : 7);
+    return fails("FAIL_READ", ++calls) ? -1 : syscall(SYS_read, fd, to, most < 7 ? most : 7);
 }
 
 ssize_t write(int fd, const void *from, size_t size) {
@@ -179,9 +179,9 @@ CODE
     cp "$root/samples/B.trace" "$tmp/case/case.trace"
     same 'seven bytes at a time' 'BLOCKED step 1 fact 5 rounds 2 held 2' "$(cd "$tmp/case" && LD_PRELOAD=$tmp/odd.so "$program")"
     # 101 bytes take 15 reads and one for the end; the trace's first is the 17th
-    same 'the model fails midway' 'case.model: Input/output error' "$(cd "$tmp/case" && FAIL_AT=5 LD_PRELOAD=$tmp/odd.so "$program" 2>&1)"
-    same 'the model fails at its end' 'case.model: Input/output error' "$(cd "$tmp/case" && FAIL_AT=16 LD_PRELOAD=$tmp/odd.so "$program" 2>&1)"
-    same 'the trace fails midway' 'case.trace: Input/output error' "$(cd "$tmp/case" && FAIL_AT=18 LD_PRELOAD=$tmp/odd.so "$program" 2>&1)"
+    same 'the model fails midway' 'case.model: Input/output error' "$(cd "$tmp/case" && FAIL_READ=5 LD_PRELOAD=$tmp/odd.so "$program" 2>&1)"
+    same 'the model fails at its end' 'case.model: Input/output error' "$(cd "$tmp/case" && FAIL_READ=16 LD_PRELOAD=$tmp/odd.so "$program" 2>&1)"
+    same 'the trace fails midway' 'case.trace: Input/output error' "$(cd "$tmp/case" && FAIL_READ=18 LD_PRELOAD=$tmp/odd.so "$program" 2>&1)"
     # the name, " step " and 1 are written; the fourth write is " fact "
     same 'the line fails midway' "BLOCKED step 1the verdict's line: Input/output error" "$(cd "$tmp/case" && FAIL_WRITE=4 LD_PRELOAD=$tmp/odd.so "$program" 2>&1)"
     same 'the line has no end' "the verdict's line: Input/output error" "$(cd "$tmp/case" && FAIL_WRITE=10 LD_PRELOAD=$tmp/odd.so "$program" 2>&1 >/dev/null)"

@@ -1,7 +1,7 @@
 // The verdict on a pair of files, and what it leaves in the lent buffers.
 // stepping: how a state changes; running: the run of a judged pair.
 ghost use mathlib.Core.Path.{_≡_};
-ghost use Rattle.checking.specs.Verdict.{Checked, refused, roomless};
+ghost use Rattle.checking.specs.Verdict.{Checked, refused};
 
 pub mod running;
 pub mod stepping;
@@ -38,30 +38,18 @@ fn refuse(mark: u8, fault: Fault) -> Verdict
     }
 }
 
-// The refusal of a buffer that is too short.
-fn refuse_room() -> Verdict
-    ensures { λ r. ⌜ r ≡ roomless ⌝ }
-{
-    refuse(
-        0,
-        Fault {
-            number: 1,
-            start: 0,
-            size: 0,
-        },
-    )
-}
-
 // The verdict on a model and a trace. A refusal leaves both buffers as they were; otherwise the first 512 bytes hold the last state
 // reached and the first 4,096 entries its round numbers.
 pub fn check(model: &[u8], trace: &[u8], state: &mut [u8], table: &mut [u16]) -> Verdict
     ensures { λ r. ⌜ Checked (now (model .entry)) (now (trace .entry)) (now (state .entry)) (now (state .exit)) (now (table .entry)) (now (table .exit)) r ⌝ }
 {
-    if state.len() < 512 {
-        return refuse_room();
-    }
-    if table.len() < 4096 {
-        return refuse_room();
+    if state.len() < 512 || table.len() < 4096 {
+        let room = Fault {
+            number: 1,
+            start: 0,
+            size: 0,
+        };
+        return refuse(0, room);
     }
     match both::judge_pair(model, trace) {
         Pair::Fault(mark, fault) => refuse(mark, fault),

@@ -1,14 +1,15 @@
 -- Laws on closing called by itself: what each refusal rests on, and what a judged model has.
 use Prim.Native.Nat.{ℕ, _≤_, _<_}
 use mathlib.Core.Path.{_≡_, refl, sym, ap, _∙_, subst}
-use mathlib.Core.Logic.{⊎-elim}
-use mathlib.Core.Bool.{Bool, true, false, true≢false, _&&_}
+use mathlib.Core.Logic.{_⊎_, inl, inr, ⊎-elim}
+use mathlib.Core.Bool.{Bool, true, false, true≢false, _&&_, or-true}
 use mathlib.Core.List.{List}
 use mathlib.Core.Option.{Option, none, some}
 use native.Mathlib.Nat.{lt-of-le-of-lt}
 use native.Mathlib.Omega.{arith}
 use borrow.Author.Tests.{lt-ltb, le-ltb, le-leb, leb-true}
-use lib.Dec.{T, leb}
+use lib.Dec.{T, leb, ltb}
+use lib.ListN.{length}
 use Rattle.sets.specs.Sets.{Facts, first}
 use Rattle.sets.proofs.Laws.{is-true, passes, both, first-hit, first-before}
 use Rattle.meaning.specs.Model.{Clause}
@@ -24,6 +25,20 @@ use Rattle.files.proofs.Laws.{facts-bound, clauses-bound, clause-below}
 use Rattle.closing.specs.Closing.{Filled, Bounded, noRoom, someFrom, refusal, answer, Table, Closes, ClosesFine}
 use Rattle.closing.specs.declared.Closed.{Closed}
 use Rattle.closing.proofs.Laws.{filled-unique}
+
+-- ---- room, as the code asks for it
+
+module _ (state table : List ℕ) where
+  -- One buffer is too short.
+  pub too-short : (length state < 512) ⊎ (ltb (length table) 4096 ≡ true) → noRoom state table ≡ true
+  unfolding noRoom
+  too-short (inl h) = rw (lt-ltb _ _ h)
+  too-short (inr e) = rw e (or-true (ltb (length state) 512))
+
+  -- Neither is.
+  pub long-enough : 512 ≤ length state → ltb (length table) 4096 ≡ false → noRoom state table ≡ false
+  unfolding noRoom
+  long-enough h e = rw (le-ltb _ _ h, e)
 
 -- ---- a bit from F on
 

@@ -153,10 +153,7 @@ fn close_shaped(model: &[u8], layout: Layout, state: &[u8], table: &mut [u16]) -
 pub fn close(model: &[u8], state: &[u8], table: &mut [u16]) -> Closed
     ensures { λ r. ⌜ Closes (now (model .entry)) (now (state .entry)) (now (table .entry)) (now (table .exit)) r ⌝ }
 {
-    if state.len() < 512 {
-        return Closed::Refused(1);
-    }
-    if table.len() < 4096 {
+    if state.len() < 512 || table.len() < 4096 {
         return Closed::Refused(1);
     }
     match model::judge_model(model) {

@@ -83,15 +83,7 @@ fn negated_section(section: &[u8], at: usize, kind: Kind, clauses: &[u8], layout
 {
     match lists::first_negated(section, kind, clauses) {
         Found::Fine(_) => Judged::Fine(layout),
-        Found::Fault(fault) => {
-            let by = at + 4;
-            let start = by + fault.start;
-            Judged::Fault(Fault {
-                number: fault.number,
-                start,
-                size: fault.size,
-            })
-        }
+        Found::Fault(fault) => Judged::Fault(sections::move_fault(fault, at + 4)),
     }
 }
 

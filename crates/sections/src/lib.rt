@@ -2,11 +2,11 @@
 ghost use mathlib.Core.Path.{_≡_};
 ghost use mathlib.Core.Bool.{not, cond};
 ghost use mathlib.Core.Option.{some};
-ghost use Prim.Native.Nat.{_+_, _-_, _≤_};
+ghost use Prim.Native.Nat.{_+_, _-_, _≤_, _<_};
 ghost use lib.Dec.{eqb};
 ghost use lib.ListN.{length, drop};
 ghost use Rattle.records.specs.Records.{given, records, firstFault, judge};
-ghost use Rattle.sections.specs.Sections.{long, endAt, fits, payload, inSection, restFault, sizes, numbers};
+ghost use Rattle.sections.specs.Sections.{long, endAt, fits, payload, inSection, restFault, moved, sizes, numbers};
 ghost use Rattle.sections.specs.Answers.{numberOf, passed};
 
 pub mod head;
@@ -59,6 +59,19 @@ pub fn rest_fault(file: &[u8], at: usize) -> Passed
         start: at,
         size,
     })
+}
+
+// A fault found in a part of the file from `by` on, at its place in the file. The caller has seen that the place is in a file.
+pub fn move_fault(fault: Fault, by: usize) -> Fault
+    requires { ⌜ by + fault .start < 18446744073709551616 ⌝ }
+    ensures { λ r. ⌜ r ≡ moved by fault ⌝ }
+{
+    let start = by + fault.start;
+    Fault {
+        number: fault.number,
+        start,
+        size: fault.size,
+    }
 }
 
 // The answer for a section whose bytes are judged as one record: its number is for all of them.
@@ -123,13 +136,6 @@ pub fn records_section(file: &[u8], at: usize, kind: Kind, facts: usize) -> Pass
     let by = at + 4;
     match records::first_fault(&file[by..end], kind, facts) {
         Found::Fine(count) => Passed::To { end, count },
-        Found::Fault(fault) => {
-            let start = by + fault.start;
-            Passed::Fault(Fault {
-                number: fault.number,
-                start,
-                size: fault.size,
-            })
-        }
+        Found::Fault(fault) => Passed::Fault(move_fault(fault, by)),
     }
 }

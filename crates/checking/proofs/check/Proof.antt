@@ -2,16 +2,18 @@
 use Prim.Native.Nat.{ℕ}
 use mathlib.Core.Path.{_≡_, sym, ap, _∙_}
 use mathlib.Core.Bool.{false}
+use mathlib.Core.Logic.{inl, inr, ⊎-elim}
 use mathlib.Core.List.{List}
 use mathlib.Core.Option.{Option, none, some}
 use Rattle.checking.specs.declared.Verdict.{Verdict}
 use denote.Ref.{now}
 use borrow.Author.Needs.{needs}
-use borrow.Author.Tests.{lt-ltb, le-ltb}
+use borrow.Author.Tests.{ltb-false}
 use Rattle.files.specs.Files.{pairFault}
 use Rattle.files.specs.Answers.{layoutOf}
 use Rattle.files.proofs.Traces.{paired-fine, paired-fault}
 use Rattle.closing.specs.Closing.{noRoom}
+use Rattle.closing.proofs.Alone.{too-short, long-enough}
 use Rattle.checking.proofs.Refusals.{checked-refused, checked-run, no-room, blames-none, checked-blamed}
 use Rattle.checking.proofs.check.Statement.{statement}
 use Rattle.checking.proofs.check.Tie as tie
@@ -29,33 +31,22 @@ module _ (s : tie.Start) where
   abbrev table : List ℕ
   table = now (s .args .table)
 
--- past the two tests there is room
+-- past the test there is room
 roomy : (c : tie.Else2) → noRoom (state (c .before .before .before .before .before .before)) (table (c .before .before .before .before .before .before)) ≡ false
-unfolding noRoom
-roomy c = rw (le-ltb _ _ (c .before .if1 .left), le-ltb _ _ (c .if2 .left))
+roomy c = long-enough _ _ (c .before .if1 .left) (c .if2 .left)
 
 -- the pair has no fault, and the model's layout is at hand
 pair-is-fine : (c : tie.After-layout) → let s = c .before .before .before .before .before .before .before .before .before in (pairFault (model s) (trace s) ≡ none) × (layoutOf (model s) ≡ c .layout .given .0 .0)
 pair-is-fine c = paired-fine _ _ _ (c .before .before .judge-pair .ensures) (c .layout .given .1)
 
-refuse-room-requires : tie.Need-refuse-room-requires
-refuse-room-requires c κs = search needs
+refuse-requires : tie.Need-refuse-requires
+refuse-requires c κs = search needs
 
 returns : tie.Need-returns
-unfolding noRoom
 returns c =
     let s = c .before .before .before .before .before .before in
-    checked-refused (model s) (trace s) (state s) (table s) _ (no-room (model s) (trace s) (state s) (table s) (rw (lt-ltb _ _ (c .before .if1 .taken))) ∙ ap {B = Option Verdict} some (sym (c .refuse-room .ensures)))
-
-refuse-room-requires-2 : tie.Need-refuse-room-requires-2
-refuse-room-requires-2 c κs = search needs
-
-returns-2 : tie.Need-returns-2
-unfolding noRoom
-returns-2 c =
-    let s = c .before .before .before .before .before .before .before in
-    checked-refused (model s) (trace s) (state s) (table s) _
-    (no-room (model s) (trace s) (state s) (table s) (rw (le-ltb _ _ (c .before .before .if1 .left), lt-ltb _ _ (c .before .if2 .taken))) ∙ ap {B = Option Verdict} some (sym (c .refuse-room2 .ensures)))
+    let short = too-short (state s) (table s) (⊎-elim (λ w. inl (w .taken)) (λ w. inr (w .1 .taken)) (c .before .if1 .came)) in
+    checked-refused (model s) (trace s) (state s) (table s) _ (no-room (model s) (trace s) (state s) (table s) short ∙ ap {B = Option Verdict} some (sym (c .refuse .ensures)))
 
 judge-pair-requires : tie.Need-judge-pair-requires
 judge-pair-requires c κs = search needs
@@ -63,8 +54,8 @@ judge-pair-requires c κs = search needs
 enum-known-mark : tie.Need-enum-known-mark
 enum-known-mark c = search needs
 
-refuse-requires : tie.Need-refuse-requires
-refuse-requires c κs = search needs
+refuse-requires-2 : tie.Need-refuse-requires-2
+refuse-requires-2 c κs = search needs
 
 enum-known-layout : tie.Need-enum-known-layout
 enum-known-layout c = search needs
@@ -72,14 +63,14 @@ enum-known-layout c = search needs
 run-requires : tie.Need-run-requires
 run-requires c κs =
     let fine = pair-is-fine (c .before .before .before) in
-    record { fine = fine .0; layout = sym (fine .1); room = c .before .before .before .before .before .before .before .if1 .left; entries = c .before .before .before .before .before .before .if2 .left }
+    record { fine = fine .0; layout = sym (fine .1); room = c .before .before .before .before .before .before .before .if1 .left; entries = ltb-false _ _ (c .before .before .before .before .before .before .if2 .left) }
 
-returns-3 : tie.Need-returns-3
-returns-3 c =
+returns-2 : tie.Need-returns-2
+returns-2 c =
     let judged = c .before .before .before .before in
     let s = judged .before .before .before .before .before .before .before in
     checked-blamed (model s) (trace s) (state s) (table s) (roomy (judged .before)) _ _ _
-    (paired-fault _ _ _ _ (judged .judge-pair .ensures) (c .before .before .mark .given .1)) (c .refuse .ensures)
+    (paired-fault _ _ _ _ (judged .judge-pair .ensures) (c .before .before .mark .given .1)) (c .refuse2 .ensures)
 
 same-length : tie.Need-same-length
 same-length c = search needs
@@ -87,8 +78,8 @@ same-length c = search needs
 same-length-2 : tie.Need-same-length-2
 same-length-2 c = search needs
 
-returns-4 : tie.Need-returns-4
-returns-4 c =
+returns-3 : tie.Need-returns-3
+returns-3 c =
     let layout = c .before .before .before .before .before .before .before .before in
     let tested = layout .before .before .before in
     let s = tested .before .before .before .before .before .before in
@@ -99,16 +90,14 @@ pub check-spec : {M : Type 1} → statement M
 check-spec =
     tie.close
     (tie.spec
-    refuse-room-requires
+    refuse-requires
     returns
-    refuse-room-requires-2
-    returns-2
     judge-pair-requires
     enum-known-mark
-    refuse-requires
+    refuse-requires-2
     enum-known-layout
     run-requires
-    returns-3
+    returns-2
     same-length
     same-length-2
-    returns-4)
+    returns-3)

@@ -2,8 +2,9 @@
 use mathlib.Core.Path.{_≡_, sym}
 use denote.Ref.{now}
 use borrow.Author.Needs.{needs}
-use borrow.Author.Tests.{lt-ltb, le-ltb}
+use borrow.Author.Tests.{ltb-false}
 use mathlib.Core.Bool.{false}
+use mathlib.Core.Logic.{inl, inr, ⊎-elim}
 use mathlib.Core.List.{List}
 use mathlib.Core.Option.{none}
 use Prim.Native.Nat.{ℕ}
@@ -11,7 +12,7 @@ use Rattle.files.specs.Files.{modelFault}
 use Rattle.files.specs.Answers.{layoutOf}
 use Rattle.files.proofs.Answers.{judged-fine, judged-fault}
 use Rattle.closing.specs.Closing.{noRoom}
-use Rattle.closing.proofs.Alone.{no-room, model-refused, model-fine, fine-shape}
+use Rattle.closing.proofs.Alone.{too-short, long-enough, no-room, model-refused, model-fine, fine-shape}
 use Rattle.closing.proofs.close.Statement.{statement}
 use Rattle.closing.proofs.close.Tie as tie
 
@@ -24,10 +25,9 @@ state s = now (s .args .state)
 abbrev table : tie.Start → List ℕ
 table s = now (s .args .table)
 
--- past the two tests there is room
+-- past the test there is room
 roomy : (c : tie.Else2) → let s = c .before .before .before .before .before in noRoom (state s) (table s) ≡ false
-unfolding noRoom
-roomy c = rw (le-ltb _ _ (c .before .if1 .left), le-ltb _ _ (c .if2 .left))
+roomy c = long-enough _ _ (c .before .if1 .left) (c .if2 .left)
 
 -- the model has no fault, and its layout is at hand
 model-is-fine : (c : tie.After-layout) → let m = model (c .before .before .before .before .before .before .before .before) in
@@ -35,16 +35,9 @@ model-is-fine : (c : tie.After-layout) → let m = model (c .before .before .bef
 model-is-fine c = judged-fine _ _ _ (c .before .before .judge-model .ensures) (c .layout .given .1)
 
 returns : tie.Need-returns
-unfolding noRoom
 returns c =
     let s = c .before .before .before .before in
-    no-room (model s) (state s) (table s) (rw (lt-ltb _ _ (c .if1 .taken)))
-
-returns-2 : tie.Need-returns-2
-unfolding noRoom
-returns-2 c =
-    let s = c .before .before .before .before .before in
-    no-room (model s) (state s) (table s) (rw (le-ltb _ _ (c .before .if1 .left), lt-ltb _ _ (c .if2 .taken)))
+    no-room (model s) (state s) (table s) (too-short _ _ (⊎-elim (λ w. inl (w .taken)) (λ w. inr (w .1 .taken)) (c .if1 .came)))
 
 judge-model-requires : tie.Need-judge-model-requires
 judge-model-requires c κs = search needs
@@ -58,10 +51,10 @@ enum-known-layout c = search needs
 close-shaped-requires : tie.Need-close-shaped-requires
 close-shaped-requires c κs =
     let fine = model-is-fine (c .before .before) in
-    (record { fine = fine-shape _ (fine .0); layout = sym (fine .1) }, c .before .before .before .before .before .if2 .left)
+    (record { fine = fine-shape _ (fine .0); layout = sym (fine .1) }, ltb-false _ _ (c .before .before .before .before .before .if2 .left))
 
-returns-3 : tie.Need-returns-3
-returns-3 c =
+returns-2 : tie.Need-returns-2
+returns-2 c =
     let judged = c .before .before .before in
     let s = judged .before .before .before .before .before .before in
     model-refused (model s) (state s) (table s) _ (roomy (judged .before)) (judged-fault _ _ _ (judged .judge-model .ensures) (c .before .fault .given .1))
@@ -69,8 +62,8 @@ returns-3 c =
 same-length : tie.Need-same-length
 same-length c = search needs
 
-returns-4 : tie.Need-returns-4
-returns-4 c =
+returns-3 : tie.Need-returns-3
+returns-3 c =
     let layout = c .before .before .before .before .before in
     let tested = layout .before .before .before in
     let s = tested .before .before .before .before .before in
@@ -81,11 +74,10 @@ close-spec =
     tie.close
     (tie.spec
     returns
-    returns-2
     judge-model-requires
     enum-known-fault
     enum-known-layout
     close-shaped-requires
-    returns-3
+    returns-2
     same-length
-    returns-4)
+    returns-3)

@@ -10,7 +10,7 @@ use Rattle.records.specs.Records.{records, firstFault, judge}
 use Rattle.records.specs.declared.Fault.{Fault}
 use Rattle.records.specs.Answers.{found}
 use Rattle.records.proofs.Laws.{found-fine, found-fault}
-use Rattle.sections.specs.Sections.{payload, moved}
+use Rattle.sections.specs.Sections.{payload}
 use Rattle.sections.proofs.Parts.{Ended, some-end, ended-bytes, ended-size, unfit-answer, fine-answer, fault-answer, fault-within}
 use borrow.Author.Needs.{needs}
 use Rattle.sections.proofs.records_section.Statement.{statement}
@@ -67,10 +67,10 @@ read-fault : (c : tie.After-fault)
     → fault (c .before .before .before .before) ≡ some (c .fault .given .0 .0)
 read-fault c = found-fault _ _ _ (sym (read (c .before .before)) ∙ c .fault .given .1)
 
-add-start : tie.Need-add-start
-add-start c =
-    let test = c .before .before .before .before .before .before in
-    omega (arith, ended test, ended-size _ _ _ (ended test), fault-within _ _ _ (read-fault (c .before .before)))
+move-fault-requires : tie.Need-move-fault-requires
+move-fault-requires c κs =
+    let test = c .before .before .before .before .before in
+    omega (arith, ended test, ended-size _ _ _ (ended test), fault-within _ _ _ (read-fault (c .before)))
 
 returns-2 : tie.Need-returns-2
 returns-2 c =
@@ -79,8 +79,8 @@ returns-2 c =
     rw (fine .1) (fine-answer _ _ _ _ _ (ended test) (fine .0))
 
 returns-3 : tie.Need-returns-3
-unfolding moved
-returns-3 c = fault-answer _ _ _ _ _ _ (ended (c .before .before .before .before .before .before)) (read-fault (c .before .before))
+returns-3 c =
+    rw (c .move-fault .ensures) (fault-answer _ _ _ _ _ _ (ended (c .before .before .before .before .before .before)) (read-fault (c .before .before)))
 
 pub records-section-spec : {M : Type 1} → statement M
 records-section-spec =
@@ -96,6 +96,6 @@ records-section-spec =
     first-fault-requires
     enum-known-count
     enum-known-fault
-    add-start
+    move-fault-requires
     returns-2
     returns-3)

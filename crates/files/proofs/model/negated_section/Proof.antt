@@ -6,7 +6,6 @@ use denote.Ref.{now}
 use Rattle.records.specs.Records.{firstFault, negated}
 use Rattle.lists.specs.Lists.{headIn}
 use Rattle.records.proofs.Laws.{found-fine, found-fault}
-use Rattle.sections.specs.Sections.{moved}
 use Rattle.files.specs.Answers.{judged}
 use Rattle.sections.proofs.Parts.{fault-within}
 use borrow.Author.Needs.{needs}
@@ -22,8 +21,8 @@ enum-told c = search needs
 enum-known-fault : tie.Need-enum-known-fault
 enum-known-fault c = search needs
 
-add-by : tie.Need-add-by
-add-by c = search needs
+add-move-fault : tie.Need-add-move-fault
+add-move-fault c = search needs
 
 -- the fault, where one was found
 read-fault : (c : tie.After-fault)
@@ -32,18 +31,18 @@ read-fault : (c : tie.After-fault)
     ≡ some (c .fault .given .0 .0)
 read-fault c = found-fault _ _ _ (sym (c .before .before .first-negated .ensures) ∙ c .fault .given .1)
 
-add-start : tie.Need-add-start
-add-start c = omega (arith, fault-within _ _ _ (read-fault (c .before .before)))
+move-fault-requires : tie.Need-move-fault-requires
+move-fault-requires c κs = omega (arith, fault-within _ _ _ (read-fault (c .before)))
 
 returns : tie.Need-returns
 unfolding judged
 returns c = rw (found-fine _ _ _ (sym (c .before .before .first-negated .ensures) ∙ c .enum-told .given .1) .0)
 
 returns-2 : tie.Need-returns-2
-unfolding judged moved
-returns-2 c = rw (read-fault (c .before .before))
+unfolding judged
+returns-2 c = rw (c .move-fault .ensures, read-fault (c .before .before))
 
 pub negated-section-spec : {M : Type 1} → statement M
 negated-section-spec =
     tie.close
-    (tie.spec first-negated-requires enum-told enum-known-fault add-by add-start returns returns-2)
+    (tie.spec first-negated-requires enum-told enum-known-fault add-move-fault move-fault-requires returns returns-2)

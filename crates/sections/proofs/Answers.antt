@@ -10,7 +10,7 @@ use lib.ListN.{length, take, getD}
 use Rattle.records.specs.Records.{given, _orElse_}
 use Rattle.records.specs.declared.Fault.{Fault}
 use Rattle.sections.specs.Sections.{tooLong, wrongVersion}
-use Rattle.sections.specs.Answers.{numberOf, passed}
+use Rattle.sections.specs.Answers.{faultNumber, passed}
 use Rattle.sections.specs.declared.Passed.{Passed}
 
 -- ---- a section
@@ -53,8 +53,8 @@ pub record Told (x y : Option Fault) (f g : Fault) (number : ℕ) : Type 0 where
   pub three : number ≡ 3 → (x ≡ none) × (y ≡ some g)
   pub other : (number ≡ 2 → ⊥) → (number ≡ 3 → ⊥) → (x ≡ none) × (y ≡ none)
 
-told : (f g : Fault) → f .number ≡ 2 → g .number ≡ 3 → (a b : Bool) → Told (given a f) (given b g) f g (numberOf (given a f orElse given b g))
-unfolding given _orElse_ numberOf
+told : (f g : Fault) → f .number ≡ 2 → g .number ≡ 3 → (a b : Bool) → Told (given a f) (given b g) f g (faultNumber (given a f orElse given b g))
+unfolding given _orElse_ faultNumber
 told f g is-2 is-3 true b = record { two = λ h. refl; not-two = λ n. absurd (n is-2); three = λ h. absurd (omega arith); other = λ n m. absurd (n is-2) }
 told f g is-2 is-3 false true = record { two = λ h. absurd (omega arith); not-two = λ n. refl; three = λ h. (refl, refl); other = λ n m. absurd (m is-3) }
 told f g is-2 is-3 false false = record { two = λ h. absurd (omega arith); not-two = λ n. refl; three = λ h. absurd (omega arith); other = λ n m. (refl, refl) }
@@ -65,6 +65,6 @@ Head most file number =
     Told (tooLong most file) (wrongVersion file) (record { number = 2; start = 0; size = length file }) (record { number = 3; start = 0; size = length (take 1 file) }) number
 
 -- The number says that.
-pub head-told : (most : ℕ) (file : List ℕ) {number : ℕ} → number ≡ numberOf (tooLong most file orElse wrongVersion file) → Head most file number
+pub head-told : (most : ℕ) (file : List ℕ) {number : ℕ} → number ≡ faultNumber (tooLong most file orElse wrongVersion file) → Head most file number
 unfolding tooLong wrongVersion
 head-told most file e = rw e (told _ _ refl refl (ltb most (length file)) (not (eqb (getD file 0 0) 1)))

@@ -4,7 +4,6 @@ use mathlib.Core.Path.{_≡_, refl, ap, _∙_, sym}
 use mathlib.Core.Bool.{Bool, true, false, not, cond}
 use mathlib.Core.List.{List, [], _∷_}
 use mathlib.Core.Option.{Option, none, some, Option·map, Option·some-ne-none, Option·none-ne-some}
-use native.Mathlib.Nat.{add-zero}
 use native.Mathlib.Omega.{arith}
 use lib.Dec.{leb, ltb, eqb, lit<}
 use lib.ListN.{length, take, drop, length-drop}
@@ -12,13 +11,16 @@ use lib.Seq.{getD-drop, drop-drop, length-take-le}
 use borrow.Author.Tests.{le-leb, lt-leb, ne-eqb}
 use Rattle.sets.specs.Sets.{any}
 use Rattle.records.specs.Words.{word, words, odd, ascending}
-use Rattle.records.specs.Records.{given, _orElse_, records, bare, firstFrom, firstFault, placeOf}
+use Rattle.records.specs.Records.{given, _orElse_, records, bare, judge, firstFrom, firstFault, placeOf}
 use Rattle.records.specs.declared.Fault.{Fault}
+use Rattle.records.specs.declared.Kind.the-variants as kind
 use Rattle.records.specs.Answers.{code}
 use Rattle.records.proofs.Sections.{first-here, first-later}
 use Rattle.records.proofs.Places.{records-sum}
-use Rattle.sections.specs.Sections.{long, endAt, fits, payload, restFault, moved, inSection, allOf, sizes, numbers}
-use Rattle.sections.specs.Answers.{numberOf, passed}
+use Rattle.sections.specs.Sections.{long, endAt, fits, payload, restFault, moved, inSection, allOf, sizes, reader}
+use Rattle.sections.specs.declared.Role.{Role}
+use Rattle.sections.specs.declared.Role.the-variants.{Sizes, Initial, Clauses, Rules, Goals}
+use Rattle.sections.specs.Answers.{passed}
 use Rattle.sections.specs.declared.Passed.{Passed}
 use Rattle.sections.proofs.Fits.{fits-within, payload-part}
 
@@ -49,44 +51,26 @@ unfolding _orElse_ code
 either-counted none y cx cy e = cy e
 either-counted (some k) y cx cy e = cx e
 
--- what a reader finds is a number for all of its bytes
-pub record Whole (reader : List ℕ → Option Fault) (bytes : List ℕ) : Type 0 where
-  pub number : Option ℕ
-  pub finds : reader bytes ≡ allOf number bytes
-  pub counted : Counted number
-
--- The sizes are judged as a whole.
-pub whole-sizes : (bytes : List ℕ) → Whole sizes bytes
+-- The numbers for the sizes are such,
+pub sizes-counted : (bytes : List ℕ) → Counted (sizes bytes)
 unfolding sizes
-whole-sizes bytes =
-    record {
-      number = _;
-      finds = refl;
-      counted = either-counted _ _ (given-counted (not (eqb (length bytes) 2)) 4 (lit< tt)) (given-counted (ltb 4096 (word bytes)) 5 (lit< tt));
-    }
+sizes-counted bytes =
+    either-counted _ _ (given-counted (not (eqb (length bytes) 2)) 4 (lit< tt)) (given-counted (ltb 4096 (word bytes)) 5 (lit< tt))
 
--- So are bare numbers.
-pub whole-numbers : (F : ℕ) (bytes : List ℕ) → Whole (numbers F) bytes
-unfolding numbers
-whole-numbers F bytes =
-    record {
-      number = bare F bytes;
-      finds = refl;
-      counted =
-          either-counted _ _ (given-counted (odd bytes) 4 (lit< tt))
-          (either-counted _ _ (given-counted (any (leb F) (words bytes)) 6 (lit< tt)) (given-counted (not (ascending (words bytes))) 7 (lit< tt)));
-    }
+-- and those for bare numbers.
+pub bare-counted : (F : ℕ) (bytes : List ℕ) → Counted (bare F bytes)
+unfolding bare
+bare-counted F bytes =
+    either-counted _ _ (given-counted (odd bytes) 4 (lit< tt))
+    (either-counted _ _ (given-counted (any (leb F) (words bytes)) 6 (lit< tt))
+    (given-counted (not (ascending (words bytes))) 7 (lit< tt)))
 
--- A number for all of the bytes, as a byte.
-all-number : (number : Option ℕ) (bytes : List ℕ) → numberOf (allOf number bytes) ≡ code number
-unfolding numberOf allOf code
-all-number none bytes = refl
-all-number (some k) bytes = refl
-
--- That of bare numbers.
-pub numbers-number : (F : ℕ) (bytes : List ℕ) → numberOf (numbers F bytes) ≡ code (bare F bytes)
-unfolding numbers
-numbers-number F bytes = all-number (bare F bytes) bytes
+-- Such a number as a byte gives the fault for all of the bytes.
+pub whole-fault : (number : Option ℕ) (bytes : List ℕ) {byte : ℕ} → Counted number → byte ≡ code number
+    → given (not (eqb byte 0)) (record { number = byte; start = 0; size = length bytes }) ≡ allOf number bytes
+unfolding code given allOf
+whole-fault none bytes counted e = rw e
+whole-fault (some k) bytes {byte} counted e = rw (ne-eqb byte 0 (λ z. Option·some-ne-none k (counted (sym e ∙ z))), e)
 
 -- ---- where a record at fault stands
 
@@ -107,9 +91,28 @@ module _ (refuses : ℕ → List ℕ → Option ℕ) where
           omega arith
 
   -- So it does in its section.
-  pub fault-within : (section : List ℕ) (f : Fault) → firstFault refuses section ≡ some f → f .start + f .size ≤ length section
+  fault-within : (section : List ℕ) (f : Fault) → firstFault refuses section ≡ some f → f .start + f .size ≤ length section
   unfolding firstFault
   fault-within section f e = omega (arith, first-within 0 0 (records section) f e, records-sum section)
+
+-- A fault for all of some bytes lies within them.
+all-within : (number : Option ℕ) (bytes : List ℕ) (f : Fault) → allOf number bytes ≡ some f → f .start + f .size ≤ length bytes
+unfolding allOf
+all-within none bytes f e = absurd (Option·none-ne-some f e)
+all-within (some k) bytes f e =
+    let start-is : 0 ≡ f .start = cc in
+    let size-is : length bytes ≡ f .size = cc in
+    omega arith
+
+-- What the reader of a section finds lies within its bytes.
+pub reader-within : (role : Role) (F : ℕ) (bytes : List ℕ) (f : Fault) → reader role F bytes ≡ some f
+    → f .start + f .size ≤ length bytes
+unfolding reader
+reader-within Sizes F bytes f e = all-within (sizes bytes) bytes f e
+reader-within Initial F bytes f e = all-within (bare F bytes) bytes f e
+reader-within Clauses F bytes f e = fault-within (judge kind.Clause F) bytes f e
+reader-within Rules F bytes f e = fault-within (judge kind.Rule F) bytes f e
+reader-within Goals F bytes f e = fault-within (judge kind.Goal F) bytes f e
 
 -- ---- where a section ends
 
@@ -183,20 +186,3 @@ module _ (file : List ℕ) (at : ℕ) where
   -- There are as many bytes as the length says.
   pub ended-size : (end : ℕ) → Ended file at end → length (payload file at) ≡ end - (at + 4)
   ended-size end s = ap length (sym (ended-bytes end s)) ∙ length-take-le (end - (at + 4)) (drop (at + 4) file) (rw length-drop (omega (arith, s .within)))
-
-  -- A section that is judged as a whole has the answer that its number as a byte gives.
-  pub whole-answer : (reader : List ℕ → Option Fault) {end byte : ℕ} {r : Passed} → Ended file at end → ((bytes : List ℕ) → Whole reader bytes)
-      → byte ≡ numberOf (reader (take (end - (at + 4)) (drop (at + 4) file)))
-      → r ≡ passed (given (not (eqb byte 0)) (record { number = byte; start = at + 4; size = end - (at + 4) })) end 0 → r ≡ passed (inSection reader file at) (endAt file at) 0
-  unfolding passed given allOf moved code
-  whole-answer reader {end} {byte} s whole number answer =
-      let bytes = payload file at in
-      let w = whole bytes in
-      let is : byte ≡ code (w .number) = number ∙ ap (λ l. numberOf (reader l)) (ended-bytes end s) ∙ ap numberOf (w .finds) ∙ all-number (w .number) bytes in
-      answer ∙ rw (fit-fault reader (s .fit), w .finds) (go (w .number) (w .counted) is)
-    where
-      go : (number : Option ℕ) → Counted number → byte ≡ code number
-          → passed (given (not (eqb byte 0)) (record { number = byte; start = at + 4; size = end - (at + 4) })) end 0
-          ≡ passed (Option·map (moved (at + 4)) (allOf number (payload file at))) (endAt file at) 0
-      go none counted e = rw (e, s .is)
-      go (some k) counted e = rw (ne-eqb byte 0 (λ z. Option·some-ne-none k (counted (sym e ∙ z))), add-zero, ended-size end s, e)

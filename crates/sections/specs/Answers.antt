@@ -5,9 +5,9 @@ use Rattle.records.specs.declared.Fault.{Fault}
 use Rattle.sections.specs.declared.Passed.{Passed}
 
 -- a fault's number as a byte, 0 where there is none
-unfoldable pub numberOf : Option Fault → ℕ
-numberOf none = 0
-numberOf (some f) = f .number
+unfoldable pub faultNumber : Option Fault → ℕ
+faultNumber none = 0
+faultNumber (some f) = f .number
 
 -- the answer for one section: its fault, or where it ends and how many records it has
 unfoldable pub passed : Option Fault → ℕ → ℕ → Passed

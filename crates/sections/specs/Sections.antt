@@ -7,8 +7,11 @@ use mathlib.Core.Option.{Option, none, some, Option·map}
 use lib.Dec.{leb, ltb, eqb}
 use lib.ListN.{length, take, drop, getD}
 use Rattle.records.specs.Words.{word}
-use Rattle.records.specs.Records.{given, _orElse_, bare}
+use Rattle.records.specs.Records.{given, _orElse_, records, bare, judge, firstFault}
 use Rattle.records.specs.declared.Fault.{Fault}
+use Rattle.records.specs.declared.Kind.the-variants as kind
+use Rattle.sections.specs.declared.Role.{Role}
+use Rattle.sections.specs.declared.Role.the-variants.{Sizes, Initial, Clauses, Rules, Goals}
 
 -- "All numbers are big-endian .. a 4-byte length": the number that the first four bytes are
 unfoldable pub long : List ℕ → ℕ
@@ -58,17 +61,30 @@ unfoldable pub allOf : Option ℕ → List ℕ → Option Fault
 allOf none bytes = none
 allOf (some k) bytes = some (record { number = k; start = 0; size = length bytes })
 
--- ---- the readers of two sections
+-- ---- the readers of the sections
 
 -- "sizes: exactly 2 bytes, F" and "F 0 to 4,096"
-unfoldable pub sizes : List ℕ → Option Fault
-unfolding given _orElse_ allOf word
-sizes bytes = allOf (given (not (eqb (length bytes) 2)) 4 orElse given (ltb 4096 (word bytes)) 5) bytes
+unfoldable pub sizes : List ℕ → Option ℕ
+unfolding given _orElse_ word
+sizes bytes = given (not (eqb (length bytes) 2)) 4 orElse given (ltb 4096 (word bytes)) 5
 
--- a section of bare numbers: "initial facts: 2 bytes each", below F and strictly ascending
-unfoldable pub numbers : ℕ → List ℕ → Option Fault
-unfolding allOf bare
-numbers F bytes = allOf (bare F bytes) bytes
+-- "4 to 7 for the model": what a section of each role is judged for, in a model of F facts
+unfoldable pub reader : Role → ℕ → List ℕ → Option Fault
+unfolding allOf sizes bare firstFault judge
+reader Sizes F bytes = allOf (sizes bytes) bytes
+reader Initial F bytes = allOf (bare F bytes) bytes
+reader Clauses F bytes = firstFault (judge kind.Clause F) bytes
+reader Rules F bytes = firstFault (judge kind.Rule F) bytes
+reader Goals F bytes = firstFault (judge kind.Goal F) bytes
+
+-- "Records are numbered from 0.": how many a section of the role has; sizes and initial facts "count as one record each" and have none
+unfoldable pub entries : Role → List ℕ → ℕ
+unfolding records
+entries Sizes bytes = 0
+entries Initial bytes = 0
+entries Clauses bytes = length (records bytes)
+entries Rules bytes = length (records bytes)
+entries Goals bytes = length (records bytes)
 
 -- ---- a file's size and version
 

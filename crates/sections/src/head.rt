@@ -3,12 +3,12 @@ ghost use mathlib.Core.Path.{_≡_};
 ghost use lib.ListN.{length, take};
 ghost use Rattle.records.specs.Records.{_orElse_};
 ghost use Rattle.sections.specs.Sections.{tooLong, wrongVersion};
-ghost use Rattle.sections.specs.Answers.{numberOf};
+ghost use Rattle.sections.specs.Answers.{faultNumber};
 use records::Fault;
 
 // The number for a file's size and version: 2 or 3, or 0.
 pub fn head_number(file: &[u8], most: usize) -> u8
-    ensures { λ r. ⌜ r ≡ numberOf (tooLong most (now (file .entry)) orElse wrongVersion (now (file .entry))) ⌝ }
+    ensures { λ r. ⌜ r ≡ faultNumber (tooLong most (now (file .entry)) orElse wrongVersion (now (file .entry))) ⌝ }
 {
     if most < file.len() {
         return 2;

@@ -1,19 +1,29 @@
-// One section of a file: its length, and the answer for its bytes. head: a file's size and version.
+// One section of a file: its length, and the answer for its bytes by the section's role. head: a file's size and version.
 ghost use mathlib.Core.Path.{_≡_};
 ghost use mathlib.Core.Bool.{not, cond};
 ghost use mathlib.Core.Option.{some};
-ghost use Prim.Native.Nat.{_+_, _-_, _≤_, _<_};
+ghost use Prim.Native.Nat.{_+_, _≤_, _<_};
 ghost use lib.Dec.{eqb};
 ghost use lib.ListN.{length, drop};
-ghost use Rattle.records.specs.Records.{given, records, firstFault, judge};
-ghost use Rattle.sections.specs.Sections.{long, endAt, fits, payload, inSection, restFault, moved, sizes, numbers};
-ghost use Rattle.sections.specs.Answers.{numberOf, passed};
+ghost use Rattle.records.specs.Records.{given};
+ghost use Rattle.records.specs.Answers.{code, found};
+ghost use Rattle.sections.specs.Sections.{long, endAt, fits, payload, inSection, restFault, moved, sizes, reader, entries};
+ghost use Rattle.sections.specs.Answers.{passed};
 
 pub mod head;
 
 use records::Fault;
 use records::Found;
 use records::Kind;
+
+// The sections that a model has, by what is in them.
+pub enum Role {
+    Sizes,
+    Initial,
+    Clauses,
+    Rules,
+    Goals,
+}
 
 // What one section is: fine, with its end and how many records it has, or at fault.
 pub enum Passed {
@@ -62,7 +72,7 @@ pub fn rest_fault(file: &[u8], at: usize) -> Passed
 }
 
 // A fault found in a part of the file from `by` on, at its place in the file. The caller has seen that the place is in a file.
-pub fn move_fault(fault: Fault, by: usize) -> Fault
+fn move_fault(fault: Fault, by: usize) -> Fault
     requires { ⌜ by + fault .start < 18446744073709551616 ⌝ }
     ensures { λ r. ⌜ r ≡ moved by fault ⌝ }
 {
@@ -74,24 +84,23 @@ pub fn move_fault(fault: Fault, by: usize) -> Fault
     }
 }
 
-// The answer for a section whose bytes are judged as one record: its number is for all of them.
-fn whole_section(number: u8, at: usize, end: usize) -> Passed
-    requires { ⌜ at + 4 ≤ end ⌝ }
-    ensures { λ r. ⌜ r ≡ passed (given (not (eqb number 0)) (record { number = number; start = at + 4; size = end - (at + 4) })) end 0 ⌝ }
+// The answer for bytes that are judged as one record: its number is for all of them.
+fn whole(number: u8, size: usize) -> Found
+    ensures { λ r. ⌜ r ≡ found (given (not (eqb number 0)) (record { number = number; start = 0; size = size })) 0 ⌝ }
 {
     if number == 0 {
-        return Passed::To { end, count: 0 };
+        return Found::Fine(0);
     }
-    Passed::Fault(Fault {
+    Found::Fault(Fault {
         number,
-        start: at + 4,
-        size: end - (at + 4),
+        start: 0,
+        size,
     })
 }
 
 // The number for the sizes: 4 or 5, or 0.
 fn sizes_number(bytes: &[u8]) -> u8
-    ensures { λ r. ⌜ r ≡ numberOf (sizes (now (bytes .entry))) ⌝ }
+    ensures { λ r. ⌜ r ≡ code (sizes (now (bytes .entry))) ⌝ }
 {
     if bytes.len() != 2 {
         return 4;
@@ -102,39 +111,30 @@ fn sizes_number(bytes: &[u8]) -> u8
     0
 }
 
-// The sizes, which are the first section.
-pub fn sizes_section(file: &[u8]) -> Passed
-    ensures { λ r. ⌜ r ≡ passed (inSection sizes (now (file .entry)) 1) (endAt (now (file .entry)) 1) 0 ⌝ }
+// The answer for a section's bytes, in a model of so many facts.
+fn read(bytes: &[u8], role: Role, facts: usize) -> Found
+    ensures { λ r. ⌜ r ≡ found (reader role facts (now (bytes .entry))) (entries role (now (bytes .entry))) ⌝ }
 {
-    let end = section_end(file, 1);
-    if end == 0 {
-        return rest_fault(file, 1);
+    match role {
+        Role::Sizes => whole(sizes_number(bytes), bytes.len()),
+        Role::Initial => whole(records::numbers_number(bytes, facts), bytes.len()),
+        Role::Clauses => records::first_fault(bytes, Kind::Clause, facts),
+        Role::Rules => records::first_fault(bytes, Kind::Rule, facts),
+        Role::Goals => records::first_fault(bytes, Kind::Goal, facts),
     }
-    whole_section(sizes_number(&file[5..end]), 1, end)
 }
 
-// A section of facts: the initial facts.
-pub fn numbers_section(file: &[u8], at: usize, facts: usize) -> Passed
-    ensures { λ r. ⌜ r ≡ passed (inSection (numbers facts) (now (file .entry)) at) (endAt (now (file .entry)) at) 0 ⌝ }
-{
-    let end = section_end(file, at);
-    if end == 0 {
-        return rest_fault(file, at);
-    }
-    let start = at + 4;
-    whole_section(records::numbers_number(&file[start..end], facts), at, end)
-}
-
-// A section of records.
-pub fn records_section(file: &[u8], at: usize, kind: Kind, facts: usize) -> Passed
-    ensures { λ r. ⌜ r ≡ passed (inSection (firstFault (judge kind facts)) (now (file .entry)) at) (endAt (now (file .entry)) at) (length (records (payload (now (file .entry)) at))) ⌝ }
+// The section whose length stands at a place, in a model of so many facts.
+pub fn judge_section(file: &[u8], at: usize, role: Role, facts: usize) -> Passed
+    ensures { λ r. ⌜ r ≡ passed (inSection (reader role facts) (now (file .entry)) at) (endAt (now (file .entry)) at)
+        (entries role (payload (now (file .entry)) at)) ⌝ }
 {
     let end = section_end(file, at);
     if end == 0 {
         return rest_fault(file, at);
     }
     let by = at + 4;
-    match records::first_fault(&file[by..end], kind, facts) {
+    match read(&file[by..end], role, facts) {
         Found::Fine(count) => Passed::To { end, count },
         Found::Fault(fault) => Passed::Fault(move_fault(fault, by)),
     }

@@ -15,7 +15,7 @@ use Rattle.records.specs.Records.{given, _orElse_}
 use Rattle.records.specs.declared.Fault.{Fault}
 use Rattle.records.proofs.Words.{odd-is, length-words}
 use Rattle.sections.specs.Sections.{endAt, sectionAt, fits, payload, restFault, moved, inSection, leftOver, allOf}
-use Rattle.files.specs.Files.{section, traceOf, traceShape, traceCount, lacks, traceNames, traceFault}
+use Rattle.files.specs.Files.{entriesOf, traceOf, traceShape, traceCount, lacks, traceNames, traceFault}
 use Rattle.sections.specs.Answers.{passed}
 use Rattle.sections.specs.declared.Passed.{Passed}
 use Rattle.sections.proofs.Parts.{Ended, fit-fault}
@@ -122,7 +122,7 @@ module _ (goals rules : ℕ) {file : List ℕ} {end : ℕ} {bytes : List ℕ} (s
 
   -- Where there is none, nothing is at fault.
   pub answer-fine : length bytes ≤ at → Passed.To end (length bytes / 2 - 1) ≡ answer goals rules file
-  unfolding traceNames given passed traceOf section sectionAt
+  unfolding traceNames given passed traceOf entriesOf sectionAt
   answer-fine h =
       let steps : length bytes / 2 - 1 ≡ length (words (drop 2 bytes)) = omega (arith, length-words (drop 2 bytes), length-drop 2 bytes) in
       rw (names-left, le-ltb _ _ (spot .1 h), s .ended .is, steps, s .entries)

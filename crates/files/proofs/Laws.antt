@@ -4,24 +4,27 @@ use mathlib.Core.Path.{_≡_, refl, _∙_, sym}
 use mathlib.Core.Bool.{Bool, true, false, _||_, cond}
 use mathlib.Core.List.{List, [], _∷_, List·Memᴰ·head, Memᴰ·of-map}
 use mathlib.Core.Option.{none, some, Option·none-ne-some}
+use native.Mathlib.Omega.{arith}
 use lib.Dec.{ltb}
 use lib.ListN.{length, drop, length-map}
 use lib.Seq.{drop-drop}
 use Rattle.sets.specs.Sets.{_∈_}
 use Rattle.meaning.specs.Model.{Clause, Rule, Goal}
 use Rattle.records.specs.Words.{word, words, odd, ascending}
-use Rattle.records.specs.Records.{records, listsOf, listOf, whole, cut, cutClause, most}
+use Rattle.records.specs.Records.{records, listsOf, listOf, whole, cut, cutClause, most, judge, firstFault}
 use Rattle.lists.specs.Lists.{Cut, AllCut}
 use Rattle.records.specs.declared.Kind.the-variants as kind
 use Rattle.lists.proofs.Laws.{judged-count, judged-facts, judged-cut}
-use Rattle.files.specs.Files.{section, factCount, clauseOf, ruleIn, goalIn, modelOf, shapeFault, modelFault}
-use Rattle.files.specs.Answers.{layoutOf, judged}
+use Rattle.sections.specs.Sections.{reader}
+use Rattle.sections.specs.declared.Role.the-variants.{Sizes, Initial, Clauses, Rules, Goals}
+use Rattle.files.specs.Files.{sectionOf, factCount, clauseOf, ruleIn, goalIn, modelOf, shapeFault, modelFault}
+use Rattle.files.specs.Answers.{countsOf, judged}
 use Rattle.files.specs.declared.Judged.{Judged}
-use Rattle.files.proofs.Shaped.{shaped}
-use Rattle.files.proofs.Order.{sizes-fine, numbers-fine}
+use Rattle.files.proofs.Shaped.{judged-section}
+use Rattle.files.proofs.Order.{all-fine, sizes-fine, bare-fine}
 
 -- Two answers for a model that meet the contract of `judge_model` are equal.
-pub model-unique : (file : List ℕ) (x y : Judged) → x ≡ judged (modelFault file) (layoutOf file) → y ≡ judged (modelFault file) (layoutOf file) → x ≡ y
+pub model-unique : (file : List ℕ) (x y : Judged) → x ≡ judged (modelFault file) (countsOf file) → y ≡ judged (modelFault file) (countsOf file) → x ≡ y
 model-unique file x y p q = p ∙ sym q
 
 -- The lists of a clause are its head by itself and its body.
@@ -45,67 +48,85 @@ Below F facts = (f : ℕ) → f ∈ facts → f < F
 module _ (file : List ℕ) (fine : shapeFault file ≡ none) where
   -- F is at most 4,096.
   pub facts-bound : factCount file ≤ 4096
-  unfolding factCount
-  facts-bound = sizes-fine (section file 0) (shaped file fine .sizes) .1
+  unfolding factCount reader
+  facts-bound = sizes-fine (sectionOf file Sizes) (all-fine _ _ (judged-section file fine Sizes)) .1
+
+  -- The sizes are two bytes.
+  pub sizes-two : 2 ≤ length (sectionOf file Sizes)
+  unfolding reader
+  sizes-two = omega (arith, sizes-fine (sectionOf file Sizes) (all-fine _ _ (judged-section file fine Sizes)))
 
   -- Every initial fact is below F.
   pub initial-below : Below (factCount file) (modelOf file .initial)
-  unfolding modelOf
-  initial-below = numbers-fine (factCount file) (section file 1) (shaped file fine .initial) .0
+  unfolding modelOf reader
+  initial-below = bare-fine (factCount file) (sectionOf file Initial) (all-fine _ _ (judged-section file fine Initial)) .0
 
   -- The initial facts are strictly ascending.
   pub initial-ascending : ascending (modelOf file .initial) ≡ true
-  unfolding modelOf
-  initial-ascending = numbers-fine (factCount file) (section file 1) (shaped file fine .initial) .1
+  unfolding modelOf reader
+  initial-ascending = bare-fine (factCount file) (sectionOf file Initial) (all-fine _ _ (judged-section file fine Initial)) .1
+
+  -- No record of the clauses, of the rules and of the attack states is at fault.
+  clauses-judged : firstFault (judge kind.Clause (factCount file)) (sectionOf file Clauses) ≡ none
+  unfolding reader
+  clauses-judged = judged-section file fine Clauses
+
+  rules-judged : firstFault (judge kind.Rule (factCount file)) (sectionOf file Rules) ≡ none
+  unfolding reader
+  rules-judged = judged-section file fine Rules
+
+  goals-judged : firstFault (judge kind.Goal (factCount file)) (sectionOf file Goals) ≡ none
+  unfolding reader
+  goals-judged = judged-section file fine Goals
 
   -- The lists of every clause's record fill it.
-  pub clauses-cut : AllCut kind.Clause (section file 2)
-  clauses-cut = judged-cut kind.Clause _ _ (shaped file fine .clauses)
+  pub clauses-cut : AllCut kind.Clause (sectionOf file Clauses)
+  clauses-cut = judged-cut kind.Clause _ _ clauses-judged
 
   -- So do those of every rule's record.
-  pub rules-cut : AllCut kind.Rule (section file 3)
-  rules-cut = judged-cut kind.Rule _ _ (shaped file fine .rules)
+  pub rules-cut : AllCut kind.Rule (sectionOf file Rules)
+  rules-cut = judged-cut kind.Rule _ _ rules-judged
 
   -- So do those of every attack state's record.
-  pub goals-cut : AllCut kind.Goal (section file 4)
-  goals-cut = judged-cut kind.Goal _ _ (shaped file fine .goals)
+  pub goals-cut : AllCut kind.Goal (sectionOf file Goals)
+  goals-cut = judged-cut kind.Goal _ _ goals-judged
 
   -- There are at most 4,096 clauses.
   pub clauses-bound : length (modelOf file .clauses) ≤ 4096
   unfolding modelOf most
-  clauses-bound = rw length-map (judged-count kind.Clause _ _ (shaped file fine .clauses))
+  clauses-bound = rw length-map (judged-count kind.Clause _ _ clauses-judged)
 
   -- There are at most 2,048 rules.
   pub rules-bound : length (modelOf file .rules) ≤ 2048
   unfolding modelOf most
-  rules-bound = rw length-map (judged-count kind.Rule _ _ (shaped file fine .rules))
+  rules-bound = rw length-map (judged-count kind.Rule _ _ rules-judged)
 
   -- There are at most 64 attack states.
   pub goals-bound : length (modelOf file .goals) ≤ 64
   unfolding modelOf most
-  goals-bound = rw length-map (judged-count kind.Goal _ _ (shaped file fine .goals))
+  goals-bound = rw length-map (judged-count kind.Goal _ _ goals-judged)
 
   -- The head and the body facts of every clause are below F.
   pub clause-below : (c : Clause) → c ∈ modelOf file .clauses → (c .head < factCount file) × Below (factCount file) (c .body)
   unfolding modelOf listOf AllCut
   clause-below c member =
-      let (r, there, is) = Memᴰ·of-map clauseOf (records (section file 2)) member in
+      let (r, there, is) = Memᴰ·of-map clauseOf (records (sectionOf file Clauses)) member in
       let lists = clause-lists r (clauses-cut r there) in
-      let facts = judged-facts kind.Clause _ _ (shaped file fine .clauses) r there in
+      let facts = judged-facts kind.Clause _ _ clauses-judged r there in
       rw (← is) (facts 0 _ (rw lists (List·Memᴰ·head refl)), λ f m. facts 1 f (rw lists m))
 
   -- The facts of every rule's P, N and A are below F.
   pub rule-below : (r : Rule) → r ∈ modelOf file .rules → Below (factCount file) (r .P) × Below (factCount file) (r .N) × Below (factCount file) (r .A)
   unfolding modelOf ruleIn
   rule-below r member =
-      let (bytes, there, is) = Memᴰ·of-map ruleIn (records (section file 3)) member in
-      let facts = judged-facts kind.Rule _ _ (shaped file fine .rules) bytes there in
+      let (bytes, there, is) = Memᴰ·of-map ruleIn (records (sectionOf file Rules)) member in
+      let facts = judged-facts kind.Rule _ _ rules-judged bytes there in
       rw (← is) (facts 0, facts 1, facts 2)
 
   -- The facts of every attack state's P and N are below F.
   pub goal-below : (g : Goal) → g ∈ modelOf file .goals → Below (factCount file) (g .P) × Below (factCount file) (g .N)
   unfolding modelOf goalIn
   goal-below g member =
-      let (bytes, there, is) = Memᴰ·of-map goalIn (records (section file 4)) member in
-      let facts = judged-facts kind.Goal _ _ (shaped file fine .goals) bytes there in
+      let (bytes, there, is) = Memᴰ·of-map goalIn (records (sectionOf file Goals)) member in
+      let facts = judged-facts kind.Goal _ _ goals-judged bytes there in
       rw (← is) (facts 0, facts 1)

@@ -1,98 +1,98 @@
--- What a model is that was judged for 4 to 7: each section's length fits, each section's reader finds nothing, and nothing stands after the last section.
+-- What a model is that was judged for 4 to 7: each section's length fits, each section's reader finds nothing, and nothing stands after
+-- the last section.
 use Prim.Native.Nat.{ℕ, zero, suc, _+_, _-_, _≤_, _<_}
-use mathlib.Core.Path.{_≡_, ap, _∙_, sym}
+use mathlib.Core.Path.{_≡_, refl, ap, _∙_, sym}
 use mathlib.Core.Bool.{true}
-use mathlib.Core.List.{List}
+use mathlib.Core.List.{List, [], _∷_}
 use mathlib.Core.Option.{Option, none}
+use native.Mathlib.Nat.{add-zero, zero-add, not-suc-le-zero, le-of-suc-le-suc}
 use native.Mathlib.Omega.{arith}
-use lib.ListN.{length, take, drop, length-map}
-use Rattle.records.specs.Records.{_orElse_, records, judge, firstFault}
-use Rattle.records.specs.declared.Fault.{Fault}
-use Rattle.records.specs.declared.Kind.the-variants as kind
-use Rattle.sections.specs.Sections.{sectionAt, fits, inSection, sizes, numbers}
+use lib.Dec.{lit<}
+use lib.ListN.{length, take, drop, getD}
+use Rattle.records.specs.Records.{_orElse_}
+use Rattle.sections.specs.Sections.{sectionAt, fits, payload, inSection, leftOver, reader, endAt}
+use Rattle.sections.specs.declared.Role.{Role}
+use Rattle.sections.specs.declared.Role.the-variants.{Sizes, Initial, Clauses, Rules, Goals}
 use Rattle.sections.proofs.Fits.{neither, nothing-left, section-fine, fits-within, payload-part}
-use Rattle.files.specs.Files.{section, factCount, ruleIn, goalIn, modelOf, shapeFault}
-use Rattle.files.specs.Answers.{layoutOf, Shaped}
-use Rattle.files.specs.declared.Layout.{Layout}
+use Rattle.sections.proofs.Parts.{fit-ended, ended-size}
+use Rattle.files.specs.Files.{roles, tag, indexOf, placeOfRole, sectionOf, factCount, faultFrom, shapeFault}
 
--- ---- a model with no fault of 4 to 7
+-- ---- sections without a fault, from section j on
 
--- what is known of it
-pub record Fine (file : List ℕ) : Type 0 where
-  pub fit : (i : ℕ) → i < 5 → fits file (sectionAt file i) ≡ true
-  pub sizes : sizes (section file 0) ≡ none
-  pub initial : numbers (factCount file) (section file 1) ≡ none
-  pub clauses : firstFault (judge kind.Clause (factCount file)) (section file 2) ≡ none
-  pub rules : firstFault (judge kind.Rule (factCount file)) (section file 3) ≡ none
-  pub goals : firstFault (judge kind.Goal (factCount file)) (section file 4) ≡ none
-  pub end : length file ≤ sectionAt file 5
+module _ (F : ℕ) (file : List ℕ) where
+  -- After a section without a fault come the others.
+  others : (r : Role) (rs : List Role) (j : ℕ) → faultFrom (r ∷ rs) F file (sectionAt file j) ≡ none
+      → (inSection (reader r F) file (sectionAt file j) ≡ none) × (faultFrom rs F file (sectionAt file (suc j)) ≡ none)
+  unfolding faultFrom sectionAt
+  others r rs j e = neither (inSection (reader r F) file (sectionAt file j)) _ e
 
--- section i and what is judged after it
-section-then : (reader : List ℕ → Option Fault) (file : List ℕ) (i : ℕ) (later : Option Fault) → (inSection reader file (sectionAt file i) orElse later) ≡ none
-    → (fits file (sectionAt file i) ≡ true) × (reader (section file i) ≡ none) × (later ≡ none)
-unfolding section
-section-then reader file i later e =
-    let (here, after) = neither (inSection reader file (sectionAt file i)) later e in
-    let (fit, fine) = section-fine reader file (sectionAt file i) here in
-    (fit, fine, after)
+  -- Section j + i fits, and its reader finds nothing.
+  fine-at : (rs : List Role) (j : ℕ) → faultFrom rs F file (sectionAt file j) ≡ none → (i : ℕ) → i < length rs
+      → (fits file (sectionAt file (j + i)) ≡ true) × (reader (getD rs i Goals) F (payload file (sectionAt file (j + i))) ≡ none)
+  fine-at [] j e i h = absurd (not-suc-le-zero h)
+  fine-at (r ∷ rs) j e zero h = rw add-zero (section-fine (reader r F) file (sectionAt file j) (others r rs j e .0))
+  fine-at (r ∷ rs) j e (suc i) h =
+      let same : suc j + i ≡ j + suc i = omega arith in
+      rw (← same) (fine-at rs (suc j) (others r rs j e .1) i (le-of-suc-le-suc h))
 
-below-five : (P : ℕ → Type 0) → P 0 → P 1 → P 2 → P 3 → P 4 → (i : ℕ) → i < 5 → P i
-below-five P p₀ p₁ p₂ p₃ p₄ zero h = p₀
-below-five P p₀ p₁ p₂ p₃ p₄ (suc zero) h = p₁
-below-five P p₀ p₁ p₂ p₃ p₄ (suc (suc zero)) h = p₂
-below-five P p₀ p₁ p₂ p₃ p₄ (suc (suc (suc zero))) h = p₃
-below-five P p₀ p₁ p₂ p₃ p₄ (suc (suc (suc (suc zero)))) h = p₄
-below-five P p₀ p₁ p₂ p₃ p₄ (suc (suc (suc (suc (suc i))))) h = absurd (omega arith)
+  -- Nothing stands after the last of them.
+  fine-end : (rs : List Role) (j : ℕ) → faultFrom rs F file (sectionAt file j) ≡ none → length file ≤ sectionAt file (j + length rs)
+  unfolding faultFrom
+  fine-end [] j e = rw add-zero (nothing-left file (sectionAt file j) e)
+  fine-end (r ∷ rs) j e =
+      let same : suc j + length rs ≡ j + suc (length rs) = omega arith in
+      rw (← same) (fine-end rs (suc j) (others r rs j e .1))
 
--- A model with no fault of 4 to 7 is so.
-pub shaped : (file : List ℕ) → shapeFault file ≡ none → Fine file
-unfolding shapeFault
-shaped file e =
-    let F = factCount file in
-    let (fit₀, sizes-fine, e₁) = section-then sizes file 0 _ e in
-    let (fit₁, initial-fine, e₂) = section-then (numbers F) file 1 _ e₁ in
-    let (fit₂, clauses-fine, e₃) = section-then (firstFault (judge kind.Clause F)) file 2 _ e₂ in
-    let (fit₃, rules-fine, e₄) = section-then (firstFault (judge kind.Rule F)) file 3 _ e₃ in
-    let (fit₄, goals-fine, e₅) = section-then (firstFault (judge kind.Goal F)) file 4 _ e₄ in
-    record {
-      fit = below-five (λ i. fits file (sectionAt file i) ≡ true) fit₀ fit₁ fit₂ fit₃ fit₄;
-      sizes = sizes-fine;
-      initial = initial-fine;
-      clauses = clauses-fine;
-      rules = rules-fine;
-      goals = goals-fine;
-      end = nothing-left file _ e₅;
-    }
+-- ---- a judged model
 
--- Section i of such a model ends within it, after its length.
-pub section-within : (file : List ℕ) → shapeFault file ≡ none → (i : ℕ) → i < 5 → (sectionAt file i + 4 ≤ sectionAt file (suc i)) × (sectionAt file (suc i) ≤ length file)
-unfolding sectionAt
-section-within file e i h = fits-within file (sectionAt file i) (shaped file e .fit i h)
+-- every role has its section
+role-there : (r : Role) → (indexOf r roles < length roles) × (getD roles (indexOf r roles) Goals ≡ r)
+unfolding roles indexOf tag
+role-there Sizes = (lit< tt, refl)
+role-there Initial = (lit< tt, refl)
+role-there Clauses = (lit< tt, refl)
+role-there Rules = (lit< tt, refl)
+role-there Goals = (lit< tt, refl)
 
--- The bytes of section i are those between its length and where the next one's stands.
-pub section-part : (file : List ℕ) (i : ℕ) → take (sectionAt file (suc i) - (sectionAt file i + 4)) (drop (sectionAt file i + 4) file) ≡ section file i
-unfolding section sectionAt
-section-part file i = payload-part file (sectionAt file i)
+pub role-index : (r : Role) → indexOf r roles < length roles
+role-index r = role-there r .0
 
--- The last section of such a model ends where the model does.
-pub section-last : (file : List ℕ) → shapeFault file ≡ none → sectionAt file 5 ≡ length file
-section-last file e = omega (arith, shaped file e .end, section-within file e 4 (omega arith))
+module _ (file : List ℕ) (fine : shapeFault file ≡ none) where
+  -- Each of its sections fits, by number,
+  pub section-fits : (i : ℕ) → i < length roles → fits file (sectionAt file i) ≡ true
+  unfolding shapeFault
+  section-fits i h = rw zero-add at (fine-at (factCount file) file roles 0 fine i h .0)
 
--- ---- a judged model with its layout
+  -- and by role.
+  pub role-fits : (r : Role) → fits file (placeOfRole file r) ≡ true
+  unfolding placeOfRole
+  role-fits r = section-fits (indexOf r roles) (role-there r .0)
 
--- section i stands between these two places
-pub record Between (file : List ℕ) (i at end : ℕ) : Type 0 where
-  pub within : (at + 4 ≤ end) × (end ≤ length file)
-  pub bytes : take (end - (at + 4)) (drop (at + 4) file) ≡ section file i
+  -- In each its reader finds nothing.
+  pub judged-section : (r : Role) → reader r (factCount file) (sectionOf file r) ≡ none
+  unfolding shapeFault placeOfRole sectionOf
+  judged-section r =
+      let there = role-there r in
+      rw (there .1, zero-add) at (fine-at (factCount file) file roles 0 fine (indexOf r roles) (there .0) .1)
 
--- Section i stands between the places that the layout has for it and for the next one.
-pub held-section : {file : List ℕ} {l : Layout} → Shaped file l → (i : ℕ) → i < 5 → (at end : Layout → ℕ) → at (layoutOf file) ≡ sectionAt file i → end (layoutOf file) ≡ sectionAt file (suc i) → Between file i (at l) (end l)
-held-section {file} {l} s i h at end starts ends =
-    let at-is : at l ≡ sectionAt file i = ap at (s .layout) ∙ starts in
-    let end-is : end l ≡ sectionAt file (suc i) = ap end (s .layout) ∙ ends in
-    rw (at-is, end-is) (record { within = section-within file (s .fine) i h; bytes = section-part file i })
+  -- Nothing stands after the last.
+  file-end : length file ≤ sectionAt file (length roles)
+  unfolding shapeFault
+  file-end = fine-end (factCount file) file roles 0 fine
 
--- The layout's counts are those of the model's attack states and rules.
-pub layout-counts : (file : List ℕ) → (layoutOf file .goalcount ≡ length (modelOf file .goals)) × (layoutOf file .rulecount ≡ length (modelOf file .rules))
-unfolding layoutOf modelOf
-layout-counts file = (sym (length-map (records (section file 4)) goalIn), sym (length-map (records (section file 3)) ruleIn))
+  -- Each ends within the file, after its length.
+  pub role-within : (r : Role) → (placeOfRole file r + 4 ≤ endAt file (placeOfRole file r)) × (endAt file (placeOfRole file r) ≤ length file)
+  role-within r = fits-within file (placeOfRole file r) (role-fits r)
+
+  -- Its bytes are those between its length and its end.
+  pub role-part : (r : Role)
+      → take (endAt file (placeOfRole file r) - (placeOfRole file r + 4)) (drop (placeOfRole file r + 4) file) ≡ sectionOf file r
+  unfolding sectionOf
+  role-part r = payload-part file (placeOfRole file r)
+
+  -- They stand within the file.
+  pub role-ends : (r : Role) → placeOfRole file r + 4 + length (sectionOf file r) ≤ length file
+  unfolding sectionOf
+  role-ends r =
+      let end = fit-ended file (placeOfRole file r) (role-fits r) in
+      omega (arith, end, ended-size file (placeOfRole file r) _ end)

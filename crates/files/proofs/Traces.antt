@@ -1,7 +1,6 @@
 -- What a trace and a pair are in which nothing is at fault: for the checker above.
 use Prim.Native.Nat.{ℕ, zero, suc, _+_, _*_, _%_, _≤_, _<_}
 use mathlib.Core.Path.{_≡_, refl, ap, _∙_}
-use mathlib.Core.Logic.{_⊎_, inl, inr}
 use mathlib.Core.Bool.{Bool, true, false}
 use mathlib.Core.List.{List, [], _∷_}
 use mathlib.Core.Option.{Option, none, some, Option·map, map-eq-none-iff}
@@ -20,11 +19,8 @@ use Rattle.records.specs.declared.Fault.{Fault}
 use Rattle.records.proofs.Words.{words-two, length-words, even-length}
 use Rattle.records.proofs.Judging.{or-clear}
 use Rattle.sections.specs.Sections.{long, endAt, sectionAt, fits, payload, inSection, leftOver, tooLong, wrongVersion}
-use Rattle.files.specs.Files.{Blamed, section, modelOf, traceOf, shapeFault, negatedFault, traceShape, traceCount, lacks, traceNames, traceFault, pairFault}
+use Rattle.files.specs.Files.{Blamed, entriesOf, modelOf, traceOf, shapeFault, modelBytes, traceBytes, traceShape, traceCount, lacks, traceNames, traceFault, headsFault, filesFault, pairFault}
 use Rattle.files.specs.Files.Blamed.{model, trace}
-use Rattle.files.specs.Answers.{paired}
-use Rattle.files.specs.declared.Layout.{Layout}
-use Rattle.files.specs.declared.Pair.{Pair}
 use Rattle.sections.proofs.Fits.{neither, not-given, section-fine, nothing-left, fits-within}
 use Rattle.files.proofs.Order.{all-fine}
 
@@ -48,26 +44,25 @@ every-at p (x ∷ xs) h = both (p x) (every p xs) .1 (passes (h 0 (omega arith))
 
 -- ---- a trace with no fault
 
--- its section fits, nothing stands after it, and its readers find nothing
+-- its section fits, and its readers find nothing
 record FineTrace (goals rules : ℕ) (t : List ℕ) : Type 0 where
-  fit : fits t 1 ≡ true
-  end : length t ≤ endAt t 1
-  shape : traceShape (payload t 1) ≡ none
-  count : traceCount (payload t 1) ≡ none
-  names : traceNames goals rules (payload t 1) ≡ none
+  fit : fits t (sectionAt t 0) ≡ true
+  shape : traceShape (entriesOf t) ≡ none
+  count : traceCount (entriesOf t) ≡ none
+  names : traceNames goals rules (entriesOf t) ≡ none
 
 fine-trace : (goals rules : ℕ) (t : List ℕ) → traceFault goals rules t ≡ none → FineTrace goals rules t
-unfolding traceFault sectionAt
+unfolding traceFault entriesOf
 fine-trace goals rules t e =
-    let (shape, after-shape) = neither (inSection traceShape t 1) _ e in
-    let (left, after-left) = neither (leftOver t (endAt t 1)) _ after-shape in
-    let (count, names) = neither (inSection traceCount t 1) _ after-left in
+    let at = sectionAt t 0 in
+    let (shape, after-shape) = neither (inSection traceShape t at) _ e in
+    let (left, after-left) = neither (leftOver t (sectionAt t 1)) _ after-shape in
+    let (count, names) = neither (inSection traceCount t at) _ after-left in
     record {
-      fit = section-fine traceShape t 1 shape .0;
-      end = nothing-left t (endAt t 1) left;
-      shape = section-fine traceShape t 1 shape .1;
-      count = section-fine traceCount t 1 count .1;
-      names = section-fine (traceNames goals rules) t 1 names .1;
+      fit = section-fine traceShape t at shape .0;
+      shape = section-fine traceShape t at shape .1;
+      count = section-fine traceCount t at count .1;
+      names = section-fine (traceNames goals rules) t at names .1;
     }
 
 module _ (goals rules : ℕ) (t : List ℕ) (fine : traceFault goals rules t ≡ none) where
@@ -75,60 +70,45 @@ module _ (goals rules : ℕ) (t : List ℕ) (fine : traceFault goals rules t ≡
   known = fine-trace goals rules t fine
 
   -- The trace's section fits.
-  pub trace-fits : fits t 1 ≡ true
+  pub trace-fits : fits t (sectionAt t 0) ≡ true
   trace-fits = known .fit
 
-  -- It ends where the trace does.
-  pub trace-end : endAt t 1 ≡ length t
-  trace-end = omega (arith, known .end, fits-within t 1 trace-fits)
-
-  -- so its bytes are all that stand after its length
-  bytes-are : payload t 1 ≡ drop 5 t
-  unfolding payload endAt
-  bytes-are = take-all (long (drop 1 t)) (drop 5 t) (omega (arith, trace-end, length-drop 5 t))
-
-  -- two at least, and no odd one
-  even : (2 ≤ length (drop 5 t)) × (length (drop 5 t) % 2 ≡ 0)
+  -- its entries have two bytes at least, and no odd one
+  even : (2 ≤ length (entriesOf t)) × (length (entriesOf t) % 2 ≡ 0)
   unfolding traceShape
   even =
-      let (twos, long) = or-clear (odd (drop 5 t)) (ltb (length (drop 5 t)) 2) (not-given _ 4 (all-fine _ (drop 5 t) (rw bytes-are at (known .shape)))) in
-      (ltb-false _ _ long, even-length (drop 5 t) twos)
+      let bytes = entriesOf t in
+      let shape = not-given _ 4 (all-fine _ bytes (known .shape)) in
+      let (twos, long) = or-clear (odd bytes) (ltb (length bytes) 2) shape in
+      (ltb-false _ _ long, even-length bytes twos)
 
-  -- The attack state's number is the first two bytes of the section.
-  pub trace-goal : traceOf t .goal ≡ word (drop 5 t)
-  unfolding traceOf section sectionAt
-  trace-goal = ap word bytes-are
-
-  -- The rule numbers are the bytes after those.
-  pub trace-steps : traceOf t .steps ≡ words (drop 7 t)
-  unfolding traceOf section sectionAt
-  trace-steps = rw (bytes-are, drop-drop)
-
-  -- The trace is as long as its version, its length, its attack state's number and its rule numbers.
-  pub trace-length : length t ≡ 7 + 2 * length (traceOf t .steps)
-  trace-length = rw (trace-steps, length-words) (omega (arith, even, length-drop 5 t, length-drop 7 t))
+  -- They are the attack state's number and the rule numbers, 2 bytes each.
+  pub trace-length : length (entriesOf t) ≡ 2 + 2 * length (traceOf t .steps)
+  unfolding traceOf
+  trace-length = rw length-words (omega (arith, even, length-drop 2 (entriesOf t)))
 
   -- Step i is the two bytes at its place.
-  pub trace-step : (i : ℕ) → i < length (traceOf t .steps) → getD (traceOf t .steps) i 0 ≡ word (drop (7 + 2 * i) t)
-  trace-step i h = rw trace-steps (words-index (drop 7 t) i (rw trace-steps at h)) ∙ ap word (drop-drop (2 * i) 7 t)
+  pub trace-step : (i : ℕ) → i < length (traceOf t .steps) → getD (traceOf t .steps) i 0 ≡ word (drop (2 + 2 * i) (entriesOf t))
+  unfolding traceOf
+  trace-step i h = words-index (drop 2 (entriesOf t)) i h ∙ ap word (drop-drop (2 * i) 2 (entriesOf t))
 
   -- the numbers are the attack state's and then the steps
-  entries : words (payload t 1) ≡ traceOf t .goal ∷ traceOf t .steps
-  unfolding traceOf section sectionAt
-  entries = words-two (payload t 1) (rw bytes-are (even .0))
+  entries : words (entriesOf t) ≡ traceOf t .goal ∷ traceOf t .steps
+  unfolding traceOf
+  entries = words-two (entriesOf t) (even .0)
 
   -- There are at most 1,024 steps.
   pub trace-short : length (traceOf t .steps) ≤ 1024
   unfolding traceCount
   trace-short =
-      let counted : length (words (payload t 1)) ≤ 1 + 1024 = ltb-false _ _ (not-given _ 5 (all-fine _ (payload t 1) (known .count))) in
+      let counted : length (words (entriesOf t)) ≤ 1 + 1024 = ltb-false _ _ (not-given _ 5 (all-fine _ (entriesOf t) (known .count))) in
       omega (arith, ap length entries)
 
   -- no entry names what the model lacks
   present : (i : ℕ) → i < suc (length (traceOf t .steps)) → lacks goals rules (traceOf t .goal ∷ traceOf t .steps) i ≡ false
   unfolding traceNames
   present i h =
-      let numbers = words (payload t 1) in
+      let numbers = words (entriesOf t) in
       let passed : length numbers ≤ first (lacks goals rules numbers) (length numbers) = ltb-false _ _ (not-given _ _ (known .names)) in
       rw (← entries) (first-before (lacks goals rules numbers) (length numbers) i (omega (arith, ap length entries)))
 
@@ -142,23 +122,6 @@ module _ (goals rules : ℕ) (t : List ℕ) (fine : traceFault goals rules t ≡
   unfolding lacks
   trace-step-known i h = leb-false _ _ (present (suc i) (omega arith))
 
--- ---- the answer for a pair
-
--- An answer `Fine` says that there is no fault, and the model's layout.
-pub paired-fine : {r : Pair} (fault : Option Blamed) (l l′ : Layout) → r ≡ paired fault l → r ≡ Pair.Fine l′ → (fault ≡ none) × (l ≡ l′)
-unfolding paired
-paired-fine none l l′ is e = (refl, cc)
-paired-fine (some (model f)) l l′ is e = let z : _≡_ {A = ℕ} 0 1 = cc in absurd (omega arith)
-paired-fine (some (trace f)) l l′ is e = let z : _≡_ {A = ℕ} 0 1 = cc in absurd (omega arith)
-
--- An answer `Fault` says which fault it is, and by its mark whose: 0 is the model's, 1 the trace's.
-pub paired-fault : {r : Pair} (fault : Option Blamed) (l : Layout) (mark : ℕ) (f : Fault) → r ≡ paired fault l → r ≡ Pair.Fault mark f
-    → ((fault ≡ some (model f)) × (mark ≡ 0)) ⊎ ((fault ≡ some (trace f)) × (mark ≡ 1))
-unfolding paired
-paired-fault none l mark f is e = let z : _≡_ {A = ℕ} 0 1 = cc in absurd (omega arith)
-paired-fault (some (model g)) l mark f is e = inl (cc, cc)
-paired-fault (some (trace g)) l mark f is e = inr (cc, cc)
-
 -- ---- a pair with no fault
 
 -- what is known of its two files
@@ -168,7 +131,6 @@ pub record FinePair (m t : List ℕ) : Type 0 where
   pub model-version : wrongVersion m ≡ none
   pub trace-version : wrongVersion t ≡ none
   pub shape : shapeFault m ≡ none
-  pub negated : negatedFault m ≡ none
   pub trace : traceFault (length (modelOf m .goals)) (length (modelOf m .rules)) t ≡ none
 
 -- a file's fault and what is judged after it
@@ -184,22 +146,20 @@ not-long most file e = ltb-false _ _ (not-given _ _ e)
 
 -- In a pair with no fault nothing is wrong with either file.
 pub fine-pair : (m t : List ℕ) → pairFault m t ≡ none → FinePair m t
-unfolding pairFault
+unfolding pairFault filesFault headsFault
 fine-pair m t e =
-    let (e₁, r₁) = file-then model (tooLong 65536 m) _ e in
-    let (e₂, r₂) = file-then trace (tooLong 4096 t) _ r₁ in
+    let (files, names) = neither (filesFault m t) _ e in
+    let (heads, shape) = neither (headsFault m t) _ files in
+    let (e₁, r₁) = file-then model (tooLong modelBytes m) _ heads in
+    let (e₂, r₂) = file-then trace (tooLong traceBytes t) _ r₁ in
     let (e₃, r₃) = file-then model (wrongVersion m) _ r₂ in
-    let (e₄, r₄) = file-then trace (wrongVersion t) _ r₃ in
-    let (e₅, r₅) = file-then model (shapeFault m) _ r₄ in
-    let (e₆, r₆) = file-then model (negatedFault m) _ r₅ in
     record {
-      model-size = not-long 65536 m e₁;
-      trace-size = not-long 4096 t e₂;
+      model-size = not-long modelBytes m e₁;
+      trace-size = not-long traceBytes t e₂;
       model-version = e₃;
-      trace-version = e₄;
-      shape = e₅;
-      negated = e₆;
-      trace = map-eq-none-iff trace _ .0 r₆;
+      trace-version = map-eq-none-iff trace _ .0 r₃;
+      shape = map-eq-none-iff model _ .0 shape;
+      trace = map-eq-none-iff trace _ .0 names;
     }
 
 -- The trace of a pair with no fault names only what the model has.

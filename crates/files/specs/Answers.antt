@@ -1,61 +1,93 @@
--- What the answers of this crate's functions are, in document 01's numbers and values.
-use Prim.Native.Nat.{ℕ, zero, suc}
+-- What the answers of this crate's functions are, in document 01's numbers and values, and the bytes that a part is.
+use Prim.Native.Nat.{ℕ, zero, suc, _+_, _*_}
 use mathlib.Core.Path.{_≡_}
-use mathlib.Core.List.{List, []}
+use mathlib.Core.List.{List, [], _∷_}
 use mathlib.Core.Option.{Option, none, some}
-use lib.ListN.{length, take, drop}
-use Rattle.records.specs.Records.{records, judge, firstFault}
+use lib.ListN.{length, take, drop, getD}
+use Rattle.records.specs.Records.{records, placeOf}
 use Rattle.records.specs.declared.Fault.{Fault}
-use Rattle.records.specs.declared.Kind.the-variants as kind
-use Rattle.sections.specs.Sections.{sectionAt, inSection, sizes, numbers}
-use Rattle.files.specs.Files.{Blamed, section, factCount, shapeFault}
+use Rattle.sections.specs.Sections.{endAt, sectionAt, payload, entries}
+use Rattle.sections.specs.declared.Role.{Role}
+use Rattle.sections.specs.declared.Role.the-variants.{Sizes, Initial, Clauses, Rules, Goals}
+use Rattle.files.specs.Files.{Blamed, roles, placeOfRole, sectionOf, modelOf}
 use Rattle.files.specs.Files.Blamed.{model, trace}
-use Rattle.files.specs.declared.Layout.{Layout}
+use Rattle.files.specs.declared.Counts.{Counts}
+use Rattle.files.specs.declared.Heads.{Heads}
 use Rattle.files.specs.declared.Judged.{Judged}
 use Rattle.files.specs.declared.Pair.{Pair}
+use Rattle.files.specs.declared.Part.{Part}
 
--- where a model's sections stand, and how many rules and attack states it has
-unfoldable pub layoutOf : List ℕ → Layout
-unfolding factCount sectionAt section records
-layoutOf file = record {
-  facts = factCount file;
-  initial = sectionAt file 1;
-  clauses = sectionAt file 2;
-  rules = sectionAt file 3;
-  goals = sectionAt file 4;
-  end = sectionAt file 5;
-  rulecount = length (records (section file 3));
-  goalcount = length (records (section file 4));
+-- ---- what was judged
+
+-- how many rules and attack states a trace can name
+unfoldable pub countsOf : List ℕ → Counts
+unfolding modelOf
+countsOf file = record { rules = length (modelOf file .rules); goals = length (modelOf file .goals) }
+
+-- the answer for a model: its fault, or those counts
+unfoldable pub judged : Option Fault → Counts → Judged
+judged none n = Judged.Fine n
+judged (some f) n = Judged.Fault f
+
+-- "handed back as a part of the model or of the trace itself, with a mark saying which": mark 0 is the model, 1 the trace
+unfoldable pub blamedPart : Blamed → Part
+blamedPart (model f) = record { mark = 0; start = f .start; size = f .size }
+blamedPart (trace f) = record { mark = 1; start = f .start; size = f .size }
+
+unfoldable pub blamedNumber : Blamed → ℕ
+blamedNumber (model f) = f .number
+blamedNumber (trace f) = f .number
+
+-- the answer for the sizes and versions of two files: their fault's number and part
+unfoldable pub headed : Option Blamed → Heads
+unfolding blamedNumber blamedPart
+headed none = Heads.Fine
+headed (some b) = Heads.Fault (blamedNumber b) (blamedPart b)
+
+-- the answer for a pair: its fault's number and part, or the model's counts
+unfoldable pub paired : Option Blamed → Counts → Pair
+unfolding blamedNumber blamedPart
+paired none n = Pair.Fine n
+paired (some b) n = Pair.Fault (blamedNumber b) (blamedPart b)
+
+-- ---- parts
+
+-- the bytes of a place in the file marked, as far as the file has them; for any other mark none
+unfoldable pub bytesAt : List ℕ → List ℕ → ℕ → ℕ → ℕ → List ℕ
+bytesAt m t zero start size = take size (drop start m)
+bytesAt m t (suc zero) start size = take size (drop start t)
+bytesAt m t (suc (suc mark)) start size = []
+
+unfoldable pub partOf : List ℕ → List ℕ → Part → List ℕ
+unfolding bytesAt
+partOf m t p = bytesAt m t (p .mark) (p .start) (p .size)
+
+-- "the two bytes in the trace": those of entry i
+unfoldable pub entryPart : List ℕ → ℕ → Part
+unfolding sectionAt
+entryPart t i = record { mark = 1; start = sectionAt t 0 + 4 + 2 * i; size = 2 }
+
+-- "the attack state's record"
+unfoldable pub goalPart : List ℕ → ℕ → Part
+unfolding placeOfRole sectionOf records placeOf
+goalPart m g = record {
+  mark = 0;
+  start = placeOfRole m Goals + 4 + placeOf g (records (sectionOf m Goals));
+  size = length (getD (records (sectionOf m Goals)) g []);
 }
 
--- the answer for a model: its fault, or its layout
-unfoldable pub judged : Option Fault → Layout → Judged
-judged none l = Judged.Fine l
-judged (some f) l = Judged.Fault f
+-- ---- between functions: counting records while sections are judged. No promise to the outside rests on this.
 
--- "with a mark saying which": 0 is the model, 1 the trace
-unfoldable pub paired : Option Blamed → Layout → Pair
-paired none l = Pair.Fine l
-paired (some (model f)) l = Pair.Fault 0 f
-paired (some (trace f)) l = Pair.Fault 1 f
+-- the counts with those of one section more
+unfoldable pub noted : Counts → Role → ℕ → Counts
+noted n Sizes k = n
+noted n Initial k = n
+noted n Clauses k = n
+noted n Rules k = record { rules = k; goals = n .goals }
+noted n Goals k = record { rules = n .rules; goals = k }
 
--- "handed back as a part of the model or of the trace itself": the bytes of a place in the file marked, as far as the file has them; for any other mark none
-unfoldable pub partOf : List ℕ → List ℕ → ℕ → ℕ → ℕ → List ℕ
-partOf m t zero start size = take size (drop start m)
-partOf m t (suc zero) start size = take size (drop start t)
-partOf m t (suc (suc mark)) start size = []
-
--- a model whose sizes, initial facts and clauses were judged for 4 to 7, with its F and where the lengths of the sections 1 to 3 stand
-pub record Begun (file : List ℕ) (facts initial clauses rules : ℕ) : Type 0 where
-  pub sizes-fine : inSection sizes file (sectionAt file 0) ≡ none
-  pub initial-fine : inSection (numbers (factCount file)) file (sectionAt file 1) ≡ none
-  pub clauses-fine : inSection (firstFault (judge kind.Clause (factCount file))) file (sectionAt file 2) ≡ none
-  pub facts-are : facts ≡ factCount file
-  pub initial-at : initial ≡ sectionAt file 1
-  pub clauses-at : clauses ≡ sectionAt file 2
-  pub rules-at : rules ≡ sectionAt file 3
-
--- a model that was judged for 4 to 7, with its layout
-pub record Shaped (file : List ℕ) (l : Layout) : Type 0 where
-  pub fine : shapeFault file ≡ none
-  pub layout : l ≡ layoutOf file
+-- the counts with those of sections of these roles from a place on
+unfoldable pub notedFrom : List Role → List ℕ → ℕ → Counts → Counts
+unfolding endAt entries payload noted
+notedFrom [] file at n = n
+notedFrom (r ∷ rs) file at n = notedFrom rs file (endAt file at) (noted n r (entries r (payload file at)))

@@ -1,29 +1,57 @@
--- Models and traces as files: the lists that a file is, and the first fault of a model, of a trace and of a pair (document 01, "File layouts", "Bounds", "Verdict numbers and the order").
+-- Models and traces as files: the lists that a file is, and the first fault of a model, of a trace and of a pair (document 01, "File
+-- layouts", "Bounds", "Verdict numbers and the order").
 use Prim.Native.Nat.{ℕ, zero, suc, _+_, _*_}
-use mathlib.Core.Bool.{Bool, _||_}
-use mathlib.Core.List.{List, map}
+use mathlib.Core.Bool.{Bool, _||_, cond}
+use mathlib.Core.List.{List, [], _∷_, map}
 use mathlib.Core.Option.{Option, Option·map}
 use lib.Dec.{leb, ltb, eqb}
 use lib.ListN.{length, drop, getD}
-use Rattle.sets.specs.Sets.{any, first}
+use Rattle.sets.specs.Sets.{first}
 use Rattle.meaning.specs.Model.{Clause, Rule, Goal, Model, Trace}
 use Rattle.records.specs.Words.{word, words, odd}
-use Rattle.records.specs.Records.{given, _orElse_, records, listOf, judge, firstFault, negated}
+use Rattle.records.specs.Records.{given, _orElse_, records, listOf}
 use Rattle.records.specs.declared.Fault.{Fault}
 use Rattle.records.specs.declared.Kind.the-variants as kind
-use Rattle.sections.specs.Sections.{inSection, leftOver, allOf, payload, sectionAt, sizes, numbers, tooLong, wrongVersion}
+use Rattle.sections.specs.Sections.{endAt, inSection, leftOver, allOf, payload, sectionAt, reader, tooLong, wrongVersion}
+use Rattle.sections.specs.declared.Role.{Role}
+use Rattle.sections.specs.declared.Role.the-variants.{Sizes, Initial, Clauses, Rules, Goals}
+
+-- ---- the sections of a model
+
+-- "Model sections, in order: 1. sizes .. 2. initial facts .. 3. clauses; 4. rules; 5. attack states"
+unfoldable pub roles : List Role
+roles = Sizes ∷ Initial ∷ Clauses ∷ Rules ∷ Goals ∷ []
+
+-- a number for each role, to tell them apart
+unfoldable pub tag : Role → ℕ
+tag Sizes = 0
+tag Initial = 1
+tag Clauses = 2
+tag Rules = 3
+tag Goals = 4
+
+-- how many sections stand before that of a role
+unfoldable pub indexOf : Role → List Role → ℕ
+unfolding tag
+indexOf r [] = 0
+indexOf r (x ∷ xs) = cond (eqb (tag r) (tag x)) 0 (suc (indexOf r xs))
+
+-- where the length of the section of a role stands
+unfoldable pub placeOfRole : List ℕ → Role → ℕ
+unfolding sectionAt indexOf roles
+placeOfRole file r = sectionAt file (indexOf r roles)
+
+-- "that section's bytes and no others": what the section of a role holds
+unfoldable pub sectionOf : List ℕ → Role → List ℕ
+unfolding payload placeOfRole
+sectionOf file r = payload file (placeOfRole file r)
 
 -- ---- the lists that a file is
 
--- "that section's bytes and no others": what section i holds
-unfoldable pub section : List ℕ → ℕ → List ℕ
-unfolding payload sectionAt
-section file i = payload file (sectionAt file i)
-
 -- "F 0 to 4,096": the number in the sizes
 unfoldable pub factCount : List ℕ → ℕ
-unfolding word section
-factCount file = word (section file 0)
+unfolding word sectionOf
+factCount file = word (sectionOf file Sizes)
 
 -- "A clause is its head and then the body facts, 2 bytes each.", behind the record's length
 unfoldable pub clauseOf : List ℕ → Clause
@@ -45,51 +73,52 @@ unfoldable pub goalIn : List ℕ → Goal
 unfolding listOf
 goalIn r = record { P = listOf kind.Goal r 0; N = listOf kind.Goal r 1 }
 
--- "Model sections, in order: 1. sizes .. 2. initial facts .. 3. clauses; 4. rules; 5. attack states"
+-- the model that a file is
 unfoldable pub modelOf : List ℕ → Model
-unfolding factCount words section records clausesIn ruleIn goalIn
+unfolding factCount words sectionOf records clausesIn ruleIn goalIn
 modelOf file = record {
   F = factCount file;
-  initial = words (section file 1);
-  clauses = clausesIn (section file 2);
-  rules = map ruleIn (records (section file 3));
-  goals = map goalIn (records (section file 4));
+  initial = words (sectionOf file Initial);
+  clauses = clausesIn (sectionOf file Clauses);
+  rules = map ruleIn (records (sectionOf file Rules));
+  goals = map goalIn (records (sectionOf file Goals));
 }
+
+-- "The trace has one section": its bytes
+unfoldable pub entriesOf : List ℕ → List ℕ
+unfolding payload sectionAt
+entriesOf file = payload file (sectionAt file 0)
 
 -- "an attack state number and then rule numbers, 2 bytes each"
 unfoldable pub traceOf : List ℕ → Trace
-unfolding words word section
-traceOf file = record { goal = word (section file 0); steps = words (drop 2 (section file 0)) }
+unfolding words word entriesOf
+traceOf file = record { goal = word (entriesOf file); steps = words (drop 2 (entriesOf file)) }
 
 -- ---- the model's faults, in order
 
--- "the head of any clause"
-unfoldable pub isHead : List ℕ → ℕ → Bool
-unfolding any modelOf
-isHead file f = any (λ c. eqb (c .head) f) (modelOf file .clauses)
+-- "at the first fault in file order, section lengths being judged when they are reached .. Bytes after the last section come last.":
+-- sections of these roles, in a model of F facts, from a place on
+unfoldable pub faultFrom : List Role → ℕ → List ℕ → ℕ → Option Fault
+unfolding _orElse_ inSection reader leftOver endAt
+faultFrom [] F file at = leftOver file at
+faultFrom (r ∷ rs) F file at = inSection (reader r F) file at orElse faultFrom rs F file (endAt file at)
 
--- "4 to 7 for the model, at the first fault in file order .. Bytes after the last section come last."
+-- "then 4 to 7 for the model"
 unfoldable pub shapeFault : List ℕ → Option Fault
-unfolding _orElse_ inSection leftOver sectionAt sizes numbers factCount firstFault judge
-shapeFault file =
-    inSection sizes file (sectionAt file 0)
-    orElse inSection (numbers (factCount file)) file (sectionAt file 1)
-    orElse inSection (firstFault (judge kind.Clause (factCount file))) file (sectionAt file 2)
-    orElse inSection (firstFault (judge kind.Rule (factCount file))) file (sectionAt file 3)
-    orElse inSection (firstFault (judge kind.Goal (factCount file))) file (sectionAt file 4)
-    orElse leftOver file (sectionAt file 5)
+unfolding faultFrom roles factCount sectionAt
+shapeFault file = faultFrom roles (factCount file) file (sectionAt file 0)
 
--- "Then 8, first record in file order."
-unfoldable pub negatedFault : List ℕ → Option Fault
-unfolding _orElse_ inSection sectionAt firstFault negated isHead
-negatedFault file =
-    inSection (firstFault (negated kind.Rule (isHead file))) file (sectionAt file 3)
-    orElse inSection (firstFault (negated kind.Goal (isHead file))) file (sectionAt file 4)
+-- "Model 65,536 bytes, trace 4,096."
+abbrev pub modelBytes : ℕ
+modelBytes = 65536
 
--- 2 to 8 in the order, for a model by itself
+abbrev pub traceBytes : ℕ
+traceBytes = 4096
+
+-- 2 to 7 in the order, for a model by itself
 unfoldable pub modelFault : List ℕ → Option Fault
-unfolding _orElse_ tooLong wrongVersion shapeFault negatedFault
-modelFault file = tooLong 65536 file orElse wrongVersion file orElse shapeFault file orElse negatedFault file
+unfolding _orElse_ tooLong wrongVersion shapeFault
+modelFault file = tooLong modelBytes file orElse wrongVersion file orElse shapeFault file
 
 -- ---- the trace's faults, in order
 
@@ -124,21 +153,30 @@ traceFault goals rules file =
     orElse inSection traceCount file (sectionAt file 0)
     orElse inSection (traceNames goals rules) file (sectionAt file 0)
 
--- ---- the pair's first fault
+-- ---- the pair's first fault, in stages
 
 -- "with a mark saying which": a fault of the model or of the trace
 pub data Blamed : Type 0 where
   model : Fault → Blamed
   trace : Fault → Blamed
 
--- "2 (model, then trace); 3 (model, then trace); then 4 to 7 for the model .. Then 8 .. Then 4 for the trace .. then 5, then 9 .., all before any step is run."
-unfoldable pub pairFault : List ℕ → List ℕ → Option Blamed
-unfolding _orElse_ tooLong wrongVersion shapeFault negatedFault traceFault modelOf
-pairFault m t =
-    Option·map model (tooLong 65536 m)
-    orElse Option·map trace (tooLong 4096 t)
+-- "2 (model, then trace); 3 (model, then trace)"
+unfoldable pub headsFault : List ℕ → List ℕ → Option Blamed
+unfolding _orElse_ tooLong wrongVersion
+headsFault m t =
+    Option·map model (tooLong modelBytes m)
+    orElse Option·map trace (tooLong traceBytes t)
     orElse Option·map model (wrongVersion m)
     orElse Option·map trace (wrongVersion t)
-    orElse Option·map model (shapeFault m)
-    orElse Option·map model (negatedFault m)
+
+-- what comes before the trace's own numbers: "then 4 to 7 for the model". A refusal of a tool that hangs on the model comes after it.
+unfoldable pub filesFault : List ℕ → List ℕ → Option Blamed
+unfolding _orElse_ headsFault shapeFault
+filesFault m t = headsFault m t orElse Option·map model (shapeFault m)
+
+-- "Then 4 for the trace .. then 5, then 9 .., all before any step is run."
+unfoldable pub pairFault : List ℕ → List ℕ → Option Blamed
+unfolding _orElse_ filesFault traceFault modelOf
+pairFault m t =
+    filesFault m t
     orElse Option·map trace (traceFault (length (modelOf m .goals)) (length (modelOf m .rules)) t)

@@ -1,53 +1,85 @@
-// A pair of files: the first fault of both in document 01's order, and the bytes at fault.
+// A pair of files: the first fault of both in document 01's order, stage by stage, and the bytes at fault.
 ghost use mathlib.Core.Path.{_≡_};
 ghost use lib.ListN.{take, drop};
-ghost use Rattle.files.specs.Files.{pairFault};
-ghost use Rattle.files.specs.Answers.{layoutOf, paired, partOf};
+ghost use Rattle.files.specs.Files.{headsFault, filesFault, pairFault};
+ghost use Rattle.files.specs.Answers.{countsOf, headed, paired, partOf};
+use super::Heads;
 use super::Judged;
 use super::Pair;
+use super::Part;
 use super::model;
 use super::trace;
+use records::Fault;
 use sections::Passed;
 use sections::head;
 
-// The pair: 2 and 3 of both files, the model's 4 to 7 and 8, the trace's 4, 5 and 9.
-pub fn judge_pair(model: &[u8], trace: &[u8]) -> Pair
-    ensures { λ r. ⌜ r ≡ paired (pairFault (now (model .entry)) (now (trace .entry))) (layoutOf (now (model .entry))) ⌝ }
+// The part at fault of the file marked.
+fn blame(mark: u8, fault: Fault) -> Part
+    ensures { λ r. ⌜ r ≡ record { mark = mark; start = fault .start; size = fault .size } ⌝ }
+{
+    Part {
+        mark,
+        start: fault.start,
+        size: fault.size,
+    }
+}
+
+// The first stage: 2 of both files, then 3 of both.
+pub fn judge_heads(model: &[u8], trace: &[u8]) -> Heads
+    ensures { λ r. ⌜ r ≡ headed (headsFault (now (model .entry)) (now (trace .entry))) ⌝ }
 {
     let model_head = head::head_number(model, 65536);
     let trace_head = head::head_number(trace, 4096);
     if model_head == 2 {
-        return Pair::Fault(0, head::long_fault(model));
+        return Heads::Fault(2, blame(0, head::long_fault(model)));
     }
     if trace_head == 2 {
-        return Pair::Fault(1, head::long_fault(trace));
+        return Heads::Fault(2, blame(1, head::long_fault(trace)));
     }
     if model_head == 3 {
-        return Pair::Fault(0, head::version_fault(model));
+        return Heads::Fault(3, blame(0, head::version_fault(model)));
     }
     if trace_head == 3 {
-        return Pair::Fault(1, head::version_fault(trace));
+        return Heads::Fault(3, blame(1, head::version_fault(trace)));
     }
-    match model::judge_shape(model) {
-        Judged::Fault(fault) => Pair::Fault(0, fault),
-        Judged::Fine(layout) => match model::judge_negated(model, layout) {
-            Judged::Fault(fault) => Pair::Fault(0, fault),
-            Judged::Fine(_) => match trace::judge_trace(trace, layout.goalcount, layout.rulecount) {
-                Passed::Fault(fault) => Pair::Fault(1, fault),
-                Passed::To { end: _, count: _ } => Pair::Fine(layout),
-            },
+    Heads::Fine
+}
+
+// The first two stages: sizes and versions, then the model's 4 to 7. What a tool refuses for the model's sake comes after these.
+pub fn judge_files(model: &[u8], trace: &[u8]) -> Pair
+    ensures { λ r. ⌜ r ≡ paired (filesFault (now (model .entry)) (now (trace .entry))) (countsOf (now (model .entry))) ⌝ }
+{
+    match judge_heads(model, trace) {
+        Heads::Fault(number, part) => Pair::Fault(number, part),
+        Heads::Fine => match model::judge_shape(model) {
+            Judged::Fault(fault) => Pair::Fault(fault.number, blame(0, fault)),
+            Judged::Fine(counts) => Pair::Fine(counts),
         },
     }
 }
 
-// The bytes at a place of the file marked, as far as the file has them: for every mark and place.
-pub fn part<'a>(model: &'a [u8], trace: &'a [u8], mark: u8, start: usize, size: usize) -> &'a [u8]
-    ensures { λ r. ⌜ now r ≡ partOf (now (model .entry)) (now (trace .entry)) mark start size ⌝ }
+// The pair: what comes before the trace's own numbers, then the trace's 4, 5 and 9.
+pub fn judge_pair(model: &[u8], trace: &[u8]) -> Pair
+    ensures { λ r. ⌜ r ≡ paired (pairFault (now (model .entry)) (now (trace .entry))) (countsOf (now (model .entry))) ⌝ }
 {
+    match judge_files(model, trace) {
+        Pair::Fault(number, part) => Pair::Fault(number, part),
+        Pair::Fine(counts) => match trace::judge_trace(trace, counts.goals, counts.rules) {
+            Passed::Fault(fault) => Pair::Fault(fault.number, blame(1, fault)),
+            Passed::To { end: _, count: _ } => Pair::Fine(counts),
+        },
+    }
+}
+
+// The bytes of a part of the file marked, as far as the file has them: for every mark and place.
+pub fn part<'a>(model: &'a [u8], trace: &'a [u8], at: Part) -> &'a [u8]
+    ensures { λ r. ⌜ now r ≡ partOf (now (model .entry)) (now (trace .entry)) at ⌝ }
+{
+    let mark = at.mark;
     if mark == 0 {
-        cut(model, start, size)
+        cut(model, at.start, at.size)
     } else if mark == 1 {
-        cut(trace, start, size)
+        cut(trace, at.start, at.size)
     } else {
         &model[..0]
     }

@@ -1,44 +1,83 @@
-// What a judged model holds: its sections, each a part of the model that starts at its first payload byte. The caller has judged the model.
+// What judged files hold: a model's sections, each a part of the model that starts at its first payload byte, the records of its rules
+// and attack states, and the trace's entries. The caller has judged the files.
 ghost use mathlib.Core.Path.{_≡_};
-ghost use Prim.Native.Nat.{_+_, _-_, _≤_};
-ghost use lib.ListN.{length, take, drop};
-ghost use Rattle.files.specs.Files.{section};
-ghost use Rattle.files.specs.Answers.{Shaped};
-use super::Layout;
+ghost use mathlib.Core.Option.{none};
+ghost use mathlib.Core.Bool.{true};
+ghost use mathlib.Core.List.{[]};
+ghost use Prim.Native.Nat.{_<_};
+ghost use lib.ListN.{length, getD};
+ghost use Rattle.records.specs.Records.{records};
+ghost use Rattle.sections.specs.Sections.{fits, sectionAt};
+ghost use Rattle.sections.specs.declared.Role.{Role};
+ghost use Rattle.files.specs.Files.{placeOfRole, sectionOf, entriesOf, factCount, shapeFault};
+ghost use Rattle.files.specs.Answers.{goalPart};
+use super::Part;
+use super::model;
+use sections::Role;
 
-// The bytes of the section whose length stands at a place.
-fn payload_of(model: &[u8], at: usize, end: usize) -> &[u8]
-    requires { ⌜ (at + 4 ≤ end) × (end ≤ length (now model)) ⌝ }
-    ensures { λ r. ⌜ now r ≡ take (end - (at + 4)) (drop (at + 4) (now (model .entry))) ⌝ }
+// The place of a section's length.
+fn place_of(model: &[u8], role: Role) -> usize
+    requires { ⌜ shapeFault (now model) ≡ none ⌝ }
+    ensures { λ r. ⌜ r ≡ placeOfRole (now (model .entry)) role ⌝ }
 {
+    let n = model::index_of(role);
+    let mut at = 1;
+    let mut i = 0;
+    while i < n {
+        at = sections::section_end(model, at);
+        i += 1;
+    }
+    at
+}
+
+// The bytes of the section of a role.
+pub fn section(model: &[u8], role: Role) -> &[u8]
+    requires { ⌜ shapeFault (now model) ≡ none ⌝ }
+    ensures { λ r. ⌜ now r ≡ sectionOf (now (model .entry)) role ⌝ }
+{
+    let at = place_of(model, role);
+    let end = sections::section_end(model, at);
     let start = at + 4;
     &model[start..end]
 }
 
-pub fn initial(model: &[u8], layout: Layout) -> &[u8]
-    requires { ⌜ Shaped (now model) layout ⌝ }
-    ensures { λ r. ⌜ now r ≡ section (now (model .entry)) 1 ⌝ }
+// F: the number in the sizes.
+pub fn facts(model: &[u8]) -> usize
+    requires { ⌜ shapeFault (now model) ≡ none ⌝ }
+    ensures { λ r. ⌜ r ≡ factCount (now (model .entry)) ⌝ }
 {
-    payload_of(model, layout.initial, layout.clauses)
+    records::word_at(section(model, Role::Sizes), 0)
 }
 
-pub fn clauses(model: &[u8], layout: Layout) -> &[u8]
-    requires { ⌜ Shaped (now model) layout ⌝ }
-    ensures { λ r. ⌜ now r ≡ section (now (model .entry)) 2 ⌝ }
+// Record k of a section of records.
+pub fn record(model: &[u8], role: Role, k: usize) -> &[u8]
+    requires { ⌜ (shapeFault (now model) ≡ none) × (k < length (records (sectionOf (now model) role))) ⌝ }
+    ensures { λ r. ⌜ now r ≡ getD (records (sectionOf (now (model .entry)) role)) k [] ⌝ }
 {
-    payload_of(model, layout.clauses, layout.rules)
+    let bytes = section(model, role);
+    records::record_at(bytes, records::place(bytes, k))
 }
 
-pub fn rules(model: &[u8], layout: Layout) -> &[u8]
-    requires { ⌜ Shaped (now model) layout ⌝ }
-    ensures { λ r. ⌜ now r ≡ section (now (model .entry)) 3 ⌝ }
+// The part of the model that an attack state's record is.
+pub fn goal_part(model: &[u8], g: usize) -> Part
+    requires { ⌜ (shapeFault (now model) ≡ none) × (g < length (records (sectionOf (now model) Role.Goals))) ⌝ }
+    ensures { λ r. ⌜ r ≡ goalPart (now (model .entry)) g ⌝ }
 {
-    payload_of(model, layout.rules, layout.goals)
+    let goals = section(model, Role::Goals);
+    let at = records::place(goals, g);
+    let record = records::record_at(goals, at);
+    Part {
+        mark: 0,
+        start: place_of(model, Role::Goals) + 4 + at,
+        size: record.len(),
+    }
 }
 
-pub fn goals(model: &[u8], layout: Layout) -> &[u8]
-    requires { ⌜ Shaped (now model) layout ⌝ }
-    ensures { λ r. ⌜ now r ≡ section (now (model .entry)) 4 ⌝ }
+// The trace's entries: the bytes of its section.
+pub fn entries(trace: &[u8]) -> &[u8]
+    requires { ⌜ fits (now trace) (sectionAt (now trace) 0) ≡ true ⌝ }
+    ensures { λ r. ⌜ now r ≡ entriesOf (now (trace .entry)) ⌝ }
 {
-    payload_of(model, layout.goals, layout.end)
+    let end = sections::section_end(trace, 1);
+    &trace[5..end]
 }

@@ -1,5 +1,5 @@
-// Reads model and trace files: the first fault of a pair with the bytes at fault, and the sections of a judged model.
-// model: a model's faults; trace: a trace's; both: the pair in document 01's order, and the part at fault; held: what a judged model holds.
+// Reads model and trace files: the first fault of a pair with the part at fault, and what a judged file holds.
+// model: a model's faults; trace: a trace's; both: the pair in document 01's order, and the part at fault; held: what is in judged files.
 pub mod both;
 pub mod held;
 pub mod model;
@@ -7,26 +7,33 @@ pub mod trace;
 
 use records::Fault;
 
-// A judged model's F, where the lengths of its other sections stand, where the last section ends, and how many rules and attack states there are.
-pub struct Layout {
-    pub facts: usize,
-    pub initial: usize,
-    pub clauses: usize,
+// How many rules and attack states a judged model has.
+pub struct Counts {
     pub rules: usize,
     pub goals: usize,
-    pub end: usize,
-    pub rulecount: usize,
-    pub goalcount: usize,
 }
 
 // What a model is.
 pub enum Judged {
-    Fine(Layout),
+    Fine(Counts),
     Fault(Fault),
 }
 
-// What a pair of files is; the mark says whose bytes are at fault, 0 the model's, 1 the trace's.
+// A part of one of the two files: whose, 0 the model's or 1 the trace's, where it starts and how many bytes it has.
+pub struct Part {
+    pub mark: u8,
+    pub start: usize,
+    pub size: usize,
+}
+
+// What the sizes and versions of two files are.
+pub enum Heads {
+    Fine,
+    Fault(u8, Part),
+}
+
+// What a pair of files is; at fault by a number, with the part at fault.
 pub enum Pair {
-    Fine(Layout),
-    Fault(u8, Fault),
+    Fine(Counts),
+    Fault(u8, Part),
 }

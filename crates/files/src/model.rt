@@ -1,109 +1,113 @@
 // A model's faults, in document 01's order.
 ghost use mathlib.Core.Path.{_≡_};
-ghost use mathlib.Core.Option.{Option·map};
-ghost use Prim.Native.Nat.{_+_, _≤_, _<_};
-ghost use lib.ListN.{length};
-ghost use Rattle.records.specs.Records.{firstFault, negated};
-ghost use Rattle.lists.specs.Lists.{headIn, AllCut, listCount};
-ghost use Rattle.sections.specs.Sections.{moved};
-ghost use Rattle.files.specs.Files.{shapeFault, negatedFault, modelFault};
-ghost use Rattle.files.specs.Answers.{layoutOf, judged, Begun, Shaped};
+ghost use mathlib.Core.Option.{none};
+ghost use Prim.Native.Nat.{_≤_};
+ghost use lib.ListN.{length, getD, drop};
+ghost use Rattle.sections.specs.Sections.{endAt, inSection, reader};
+ghost use Rattle.sections.specs.declared.Role.{Role};
+ghost use Rattle.files.specs.Files.{roles, indexOf, factCount, shapeFault, modelFault};
+ghost use Rattle.files.specs.Answers.{countsOf, judged, noted};
+use super::Counts;
 use super::Judged;
-use super::Layout;
-use super::held;
 use records::Fault;
-use records::Found;
-use records::Kind;
 use sections::Passed;
+use sections::Role;
 use sections::head;
 
-// The model's first fault of 4 to 7, or its layout.
-pub fn judge_shape(model: &[u8]) -> Judged
-    ensures { λ r. ⌜ r ≡ judged (shapeFault (now (model .entry))) (layoutOf (now (model .entry))) ⌝ }
+// How many sections a model has.
+const SECTIONS: usize = 5;
+
+// The role of section i.
+fn role_at(i: usize) -> Role
+    ensures { λ r. ⌜ r ≡ getD roles i Role.Goals ⌝ }
 {
-    let initial = match sections::sizes_section(model) {
-        Passed::To { end, count: _ } => end,
-        Passed::Fault(fault) => return Judged::Fault(fault),
-    };
-    let facts = records::word_at(model, 5);
-    let clauses = match sections::numbers_section(model, initial, facts) {
-        Passed::To { end, count: _ } => end,
-        Passed::Fault(fault) => return Judged::Fault(fault),
-    };
-    let rules = match sections::records_section(model, clauses, Kind::Clause, facts) {
-        Passed::To { end, count: _ } => end,
-        Passed::Fault(fault) => return Judged::Fault(fault),
-    };
-    judge_last(model, facts, initial, clauses, rules)
+    match i {
+        0 => Role::Sizes,
+        1 => Role::Initial,
+        2 => Role::Clauses,
+        3 => Role::Rules,
+        _ => Role::Goals,
+    }
 }
 
-// The rules, the attack states and what stands after them.
-fn judge_last(model: &[u8], facts: usize, initial: usize, clauses: usize, rules: usize) -> Judged
-    requires { ⌜ Begun (now model) facts initial clauses rules ⌝ }
-    ensures { λ r. ⌜ r ≡ judged (shapeFault (now (model .entry))) (layoutOf (now (model .entry))) ⌝ }
+// How many sections stand before that of a role.
+pub fn index_of(role: Role) -> usize
+    ensures { λ r. ⌜ r ≡ indexOf role roles ⌝ }
 {
-    match sections::records_section(model, rules, Kind::Rule, facts) {
-        Passed::Fault(fault) => Judged::Fault(fault),
-        Passed::To {
-            end: goals,
-            count: rulecount,
-        } => match sections::records_section(model, goals, Kind::Goal, facts) {
-            Passed::Fault(fault) => Judged::Fault(fault),
-            Passed::To {
-                end,
-                count: goalcount,
-            } => {
-                if end < model.len() {
-                    let size = model.len() - end;
-                    return Judged::Fault(Fault {
-                        number: 4,
-                        start: end,
-                        size,
-                    });
-                }
-                Judged::Fine(Layout {
-                    facts,
-                    initial,
-                    clauses,
-                    rules,
-                    goals,
-                    end,
-                    rulecount,
-                    goalcount,
-                })
-            }
+    match role {
+        Role::Sizes => 0,
+        Role::Initial => 1,
+        Role::Clauses => 2,
+        Role::Rules => 3,
+        Role::Goals => 4,
+    }
+}
+
+// The counts with those of one section more.
+fn note(counts: Counts, role: Role, count: usize) -> Counts
+    ensures { λ r. ⌜ r ≡ noted counts role count ⌝ }
+{
+    match role {
+        Role::Rules => Counts {
+            rules: count,
+            goals: counts.goals,
         },
+        Role::Goals => Counts {
+            rules: counts.rules,
+            goals: count,
+        },
+        Role::Sizes => counts,
+        Role::Initial => counts,
+        Role::Clauses => counts,
     }
 }
 
-// The first record of a section with a clause's head in its N, for a section whose length stands at a place. The caller has judged both sections.
-fn negated_section(section: &[u8], at: usize, kind: Kind, clauses: &[u8], layout: Layout) -> Judged
-    requires { ⌜ (AllCut kind (now section)) × (1 < listCount kind) × (AllCut Kind.Clause (now clauses)) × (at + 4 + length (now section) ≤ layout .end) ⌝ }
-    ensures { λ r. ⌜ r ≡ judged (Option·map (moved (at + 4)) (firstFault (negated kind (headIn (now (clauses .entry)))) (now (section .entry)))) layout ⌝ }
+// The sections after the sizes, which end at a place and are fine, and what stands after the last.
+fn judge_rest(model: &[u8], first: usize, facts: usize) -> Judged
+    requires { ⌜ (inSection (reader Role.Sizes facts) (now model) 1 ≡ none) × (first ≡ endAt (now model) 1) × (facts ≡ factCount (now model)) ⌝ }
+    ensures { λ r. ⌜ r ≡ judged (shapeFault (now (model .entry))) (countsOf (now (model .entry))) ⌝ }
 {
-    match lists::first_negated(section, kind, clauses) {
-        Found::Fine(_) => Judged::Fine(layout),
-        Found::Fault(fault) => Judged::Fault(sections::move_fault(fault, at + 4)),
+    let mut counts = Counts { rules: 0, goals: 0 };
+    let mut at = first;
+    let mut i = 1;
+    while i < SECTIONS {
+        let role = role_at(i);
+        match sections::judge_section(model, at, role, facts) {
+            Passed::Fault(fault) => return Judged::Fault(fault),
+            Passed::To { end, count } => {
+                counts = note(counts, role, count);
+                at = end;
+            }
+        }
+        i += 1;
     }
+    if at < model.len() {
+        let size = model.len() - at;
+        return Judged::Fault(Fault {
+            number: 4,
+            start: at,
+            size,
+        });
+    }
+    Judged::Fine(counts)
 }
 
-// The first record with a clause's head in its N. The caller has judged the model for 4 to 7.
-pub fn judge_negated(model: &[u8], layout: Layout) -> Judged
-    requires { ⌜ Shaped (now model) layout ⌝ }
-    ensures { λ r. ⌜ r ≡ judged (negatedFault (now (model .entry))) layout ⌝ }
+// The model's first fault of 4 to 7, or its counts.
+pub fn judge_shape(model: &[u8]) -> Judged
+    ensures { λ r. ⌜ r ≡ judged (shapeFault (now (model .entry))) (countsOf (now (model .entry))) ⌝ }
 {
-    let clauses = held::clauses(model, layout);
-    let rules = held::rules(model, layout);
-    let goals = held::goals(model, layout);
-    match negated_section(rules, layout.rules, Kind::Rule, clauses, layout) {
-        Judged::Fault(fault) => Judged::Fault(fault),
-        Judged::Fine(_) => negated_section(goals, layout.goals, Kind::Goal, clauses, layout),
+    match sections::judge_section(model, 1, Role::Sizes, 0) {
+        Passed::Fault(fault) => Judged::Fault(fault),
+        Passed::To { end, count: _ } => {
+            let sizes = &model[5..end];
+            judge_rest(model, end, records::word_at(sizes, 0))
+        }
     }
 }
 
-// The model by itself: 2, 3, 4 to 7, then 8.
+// The model by itself: 2, 3, then 4 to 7.
 pub fn judge_model(model: &[u8]) -> Judged
-    ensures { λ r. ⌜ r ≡ judged (modelFault (now (model .entry))) (layoutOf (now (model .entry))) ⌝ }
+    ensures { λ r. ⌜ r ≡ judged (modelFault (now (model .entry))) (countsOf (now (model .entry))) ⌝ }
 {
     let number = head::head_number(model, 65536);
     if number == 2 {
@@ -112,8 +116,5 @@ pub fn judge_model(model: &[u8]) -> Judged
     if number == 3 {
         return Judged::Fault(head::version_fault(model));
     }
-    match judge_shape(model) {
-        Judged::Fine(layout) => judge_negated(model, layout),
-        Judged::Fault(fault) => Judged::Fault(fault),
-    }
+    judge_shape(model)
 }

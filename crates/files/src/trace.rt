@@ -1,12 +1,14 @@
 // A trace's faults, in document 01's order.
 ghost use mathlib.Core.Path.{_≡_};
-ghost use Prim.Native.Nat.{_*_};
+ghost use Prim.Native.Nat.{_*_, _<_};
 ghost use lib.ListN.{length};
 ghost use Rattle.sets.specs.Sets.{first};
 ghost use Rattle.records.specs.Words.{words};
 ghost use Rattle.sections.specs.Sections.{endAt};
 ghost use Rattle.files.specs.Files.{lacks, traceFault, traceOf};
+ghost use Rattle.files.specs.Answers.{entryPart};
 ghost use Rattle.sections.specs.Answers.{passed};
+use super::Part;
 use records::Fault;
 use sections::Passed;
 
@@ -64,4 +66,16 @@ fn lacking(entries: &[u8], goals: usize, rules: usize) -> usize
         at += 2;
     }
     at
+}
+
+// The part of a trace that entry i is. The caller has seen that a trace can have the entry.
+pub fn entry_part(trace: &[u8], i: usize) -> Part
+    requires { ⌜ i < 32768 ⌝ }
+    ensures { λ r. ⌜ r ≡ entryPart (now (trace .entry)) i ⌝ }
+{
+    Part {
+        mark: 1,
+        start: 5 + 2 * i,
+        size: 2,
+    }
 }

@@ -155,6 +155,10 @@ module _ (file : List ℕ) (at : ℕ) where
       go true fit = let ends : end ≡ endAt file at = rw fit at e in rw ends (fit-ended fit)
       go false fit = absurd (n (rw fit at e))
 
+  -- A section whose length fits ends where `section_end` says.
+  pub fit-end : {end : ℕ} → fits file at ≡ true → end ≡ cond (fits file at) (endAt file at) 0 → Ended file at end
+  fit-end fit e = let ends : _ ≡ endAt file at = rw fit at e in rw ends (fit-ended fit)
+
   -- ---- the answer for a section
 
   -- The section's bytes, as the code cuts them.

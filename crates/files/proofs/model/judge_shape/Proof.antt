@@ -1,145 +1,89 @@
--- `files::model::judge_shape` meets its contract: each section's fault comes after those before it, and F is the two bytes of the sizes.
-use Prim.Native.Nat.{ℕ}
-use mathlib.Core.Path.{_≡_, refl, _∙_}
+-- `model::judge_shape` meets its contract: the sizes, from which F comes, and then the other sections.
+use Prim.Native.Nat.{ℕ, _-_}
 use mathlib.Core.List.{List}
-use mathlib.Core.Option.{Option}
+use mathlib.Core.Path.{_≡_, _∙_, sym, ap}
+use mathlib.Core.Option.{none}
+use native.Mathlib.Omega.{arith}
 use denote.Ref.{now}
-use Rattle.records.specs.declared.Fault.{Fault}
-use Rattle.records.specs.declared.Kind.the-variants as kind
-use Rattle.sections.specs.Sections.{sectionAt, sizes, numbers}
-use Rattle.files.specs.Files.{factCount, shapeFault}
-use Rattle.sections.proofs.Answers.{or-first, or-next}
+use lib.ListN.{length, take, drop}
+use Rattle.records.specs.Words.{word}
+use Rattle.sections.specs.Sections.{endAt, sectionAt, payload, inSection, sizes, reader}
+use Rattle.sections.specs.declared.Role.the-variants.{Sizes}
+use Rattle.sections.proofs.Fits.{section-fine}
+use Rattle.sections.proofs.Parts.{Ended, fit-ended, ended-bytes}
+use Rattle.sections.proofs.Answers.{passed-to, passed-fault, or-first}
+use Rattle.files.specs.Files.{roles, tag, indexOf, placeOfRole, sectionOf, factCount, faultFrom, shapeFault}
 use Rattle.files.proofs.Answers.{judged-some}
-use Rattle.files.proofs.Order.{judging, Past, section-passed, section-refused, sizes-there, facts-at}
+use Rattle.files.proofs.Order.{all-fine, sizes-fine}
 use borrow.Author.Needs.{needs}
 use Rattle.files.proofs.model.judge_shape.Statement.{statement}
 use Rattle.files.proofs.model.judge_shape.Tie as tie
 
--- the reader of the sizes, which is told no F
-abbrev sizing : ℕ → List ℕ → Option Fault
-sizing F = sizes
-
--- where the first section stands
-first-at : (file : List ℕ) → 1 ≡ sectionAt file 0
-unfolding sectionAt
-first-at file = refl
-
 -- the sizes are fine
-sizes-past : (c : tie.After-end) → Past (now (c .before .before .before .before .args .model)) sizing 0 (c .end .given .0 .0)
-sizes-past c = let asked = c .before .before in section-passed _ sizing 0 (first-at _) refl _ (asked .sizes-section .ensures) (c .end .given .1)
+module _ (c : tie.After-end) where
+  abbrev file : List ℕ
+  file = now (c .before .before .before .before .args .model)
 
--- F is known
-facts-known : (c : tie.After-word-at) → c .word-at .result ≡ factCount (now (c .before .before .before .before .before .before .args .model))
-facts-known c = c .word-at .ensures ∙ facts-at _ (sizes-past (c .before .before) .fine)
+  past : (inSection (reader Sizes 0) file 1 ≡ none) × (endAt file 1 ≡ c .end .given .0 .0)
+  past = let (fine, ends, count) = passed-to _ _ _ _ _ (c .before .before .judge-section .ensures) (c .end .given .1) in (fine, ends)
 
--- the initial facts are fine
-initial-past : (c : tie.After-end2) → Past (now (c .before .before .before .before .before .before .before .before .before .args .model)) numbers 1 (c .end2 .given .0 .0)
-initial-past c =
-    let asked = c .before .before in
-    let word = asked .before in
-    section-passed _ numbers 1 (sizes-past (word .before .before) .ends) (facts-known word) _ (asked .numbers-section .ensures) (c .end2 .given .1)
+  ended : Ended file 1 (c .end .given .0 .0)
+  ended = rw (← past .1) (fit-ended file 1 (section-fine (reader Sizes 0) file 1 (past .0) .0))
 
--- the clauses are too
-clauses-past : (c : tie.After-end3)
-    → Past (now (c .before .before .before .before .before .before .before .before .before .before .before .before .before .args .model)) (judging kind.Clause) 2 (c .end3 .given .0 .0)
-clauses-past c =
-    let asked = c .before .before in
-    let initial = asked .before .before in
-    section-passed _ (judging kind.Clause) 2 (initial-past initial .ends) (facts-known (initial .before .before .before)) _ (asked .records-section .ensures) (c .end3 .given .1)
+  bytes : take (c .end .given .0 .0 - 5) (drop 5 file) ≡ payload file 1
+  bytes = ended-bytes file 1 _ ended
 
-sizes-section-requires : tie.Need-sizes-section-requires
-sizes-section-requires c κs = search needs
+  sizes-length : length (payload file 1) ≡ 2
+  unfolding reader
+  sizes-length = sizes-fine (payload file 1) (all-fine (sizes (payload file 1)) _ (section-fine (reader Sizes 0) file 1 (past .0) .1)) .0
 
-enum-known-end : tie.Need-enum-known-end
-enum-known-end c = search needs
+judge-section-requires : tie.Need-judge-section-requires
+judge-section-requires c κs = search needs
 
 enum-known-fault : tie.Need-enum-known-fault
 enum-known-fault c = search needs
 
-returns : tie.Need-returns
-unfolding shapeFault
-returns c =
-    let asked = c .before .before .before in
-    let file = now (asked .before .before .args .model) in
-    judged-some _ _ _ (or-first _ _ _ (section-refused file sizing 0 (first-at file) refl _ (asked .sizes-section .ensures) (c .before .fault .given .1)))
+enum-known-end : tie.Need-enum-known-end
+enum-known-end c = search needs
+
+sub-sizes : tie.Need-sub-sizes
+sub-sizes c = omega (arith, ended (c .before))
+
+part-sizes-start : tie.Need-part-sizes-start
+part-sizes-start c = omega (arith, ended (c .before))
+
+part-sizes-end : tie.Need-part-sizes-end
+part-sizes-end c = omega (arith, ended (c .before))
 
 word-at-requires : tie.Need-word-at-requires
-word-at-requires c κs = sizes-there _ (sizes-past (c .before) .fine)
+word-at-requires c κs = rw (bytes (c .before .before)) (omega (arith, sizes-length (c .before .before)))
 
-numbers-section-requires : tie.Need-numbers-section-requires
-numbers-section-requires c κs = search needs
+judge-rest-requires : tie.Need-judge-rest-requires
+unfolding reader inSection factCount sectionOf placeOfRole indexOf roles tag sectionAt
+judge-rest-requires c κs =
+    let e = c .before .before .before in
+    (past e .0, sym (past e .1), c .word-at .ensures ∙ ap word (bytes e))
 
-enum-known-end-2 : tie.Need-enum-known-end-2
-enum-known-end-2 c = search needs
-
-enum-known-fault-2 : tie.Need-enum-known-fault-2
-enum-known-fault-2 c = search needs
+returns : tie.Need-returns
+unfolding shapeFault faultFrom roles sectionAt reader inSection
+returns c =
+    let asked = c .before .before .before in
+    judged-some _ _ _ (or-first _ _ _ (passed-fault _ _ _ _ (asked .judge-section .ensures) (c .before .fault .given .1)))
 
 returns-2 : tie.Need-returns-2
-unfolding shapeFault
-returns-2 c =
-    let asked = c .before .before .before in
-    let word = asked .before in
-    let sized = sizes-past (word .before .before) in
-    judged-some _ _ _
-    (or-next _ _ (sized .fine)
-    ∙ or-first _ _ _ (section-refused _ numbers 1 (sized .ends) (facts-known word) _ (asked .numbers-section .ensures) (c .before .fault2 .given .1)))
-
-records-section-requires : tie.Need-records-section-requires
-records-section-requires c κs = search needs
-
-enum-known-end-3 : tie.Need-enum-known-end-3
-enum-known-end-3 c = search needs
-
-enum-known-fault-3 : tie.Need-enum-known-fault-3
-enum-known-fault-3 c = search needs
-
-returns-3 : tie.Need-returns-3
-unfolding shapeFault
-returns-3 c =
-    let asked = c .before .before .before in
-    let initial = asked .before .before in
-    let word = initial .before .before .before in
-    judged-some _ _ _
-    (or-next _ _ (sizes-past (word .before .before) .fine)
-    ∙ or-next _ _ (initial-past initial .fine)
-    ∙ or-first _ _ _ (section-refused _ (judging kind.Clause) 2 (initial-past initial .ends) (facts-known word) _ (asked .records-section .ensures) (c .before .fault3 .given .1)))
-
-judge-last-requires : tie.Need-judge-last-requires
-judge-last-requires c κs =
-    let clauses = c .before in
-    let initial = clauses .before .before .before .before in
-    let word = initial .before .before .before in
-    let sized = word .before .before in
-    record {
-      sizes-fine = sizes-past sized .fine;
-      initial-fine = initial-past initial .fine;
-      clauses-fine = clauses-past clauses .fine;
-      facts-are = facts-known word;
-      initial-at = sizes-past sized .ends;
-      clauses-at = initial-past initial .ends;
-      rules-at = clauses-past clauses .ends;
-    }
-
-returns-4 : tie.Need-returns-4
-returns-4 c = search needs
+returns-2 c = search needs
 
 pub judge-shape-spec : {M : Type 1} → statement M
 judge-shape-spec =
     tie.close
     (tie.spec
-    sizes-section-requires
-    enum-known-end
+    judge-section-requires
     enum-known-fault
-    returns
+    enum-known-end
+    sub-sizes
+    part-sizes-start
+    part-sizes-end
     word-at-requires
-    numbers-section-requires
-    enum-known-end-2
-    enum-known-fault-2
-    returns-2
-    records-section-requires
-    enum-known-end-3
-    enum-known-fault-3
-    returns-3
-    judge-last-requires
-    returns-4)
+    judge-rest-requires
+    returns
+    returns-2)

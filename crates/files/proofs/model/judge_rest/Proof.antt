@@ -1,0 +1,113 @@
+-- `model::judge_rest` meets its contract: at the head of the loop the model's first fault and counts are those from section i on.
+use mathlib.Core.Path.{_≡_}
+use denote.Ref.{now}
+use lib.ListN.{length, getD}
+use Rattle.sections.specs.Sections.{endAt, payload, inSection, reader, entries}
+use Rattle.sections.specs.Answers.{passed}
+use Rattle.sections.specs.declared.Role.the-variants.{Goals}
+use Rattle.files.specs.Files.{roles, factCount}
+use Rattle.files.proofs.Answers.{judged-some, judged-none}
+use borrow.Author.Needs.{needs}
+use Prim.Native.Nat.{ℕ, _-_, _≤_, _<_}
+use mathlib.Core.List.{List}
+use native.Mathlib.Omega.{arith}
+use Rattle.files.proofs.Order.{Onward, onward-start, onward-next, onward-fault, onward-left, onward-end}
+use Rattle.files.proofs.model.judge_rest.Statement.{statement}
+use Rattle.files.proofs.model.judge_rest.Tie as tie
+
+abbrev Inv-loop : tie.InvT-loop
+Inv-loop model first facts counts₀ at₀ i₀ counts at i = Onward model i at counts
+
+abbrev μ-loop : tie.MeasureT-loop
+μ-loop model first facts counts₀ at₀ i₀ counts at i = 5 - i
+
+-- where a section is judged
+module _ (c : tie.After-judge-section Inv-loop μ-loop) where
+  abbrev loop : tie.At-loop Inv-loop μ-loop
+  loop = c .before .before .before
+
+  abbrev file : List ℕ
+  file = now (loop .before .before .args .model)
+
+  on : Onward file (loop .loop .i) (loop .loop .at) (loop .loop .counts)
+  on = loop .loop .inv
+
+  more : loop .loop .i < length roles
+  unfolding roles
+  more = c .before .before .loop-test .taken
+
+  section-is : c .judge-section .result ≡ passed (inSection (reader (getD roles (loop .loop .i) Goals) (factCount file)) file (loop .loop .at))
+      (endAt file (loop .loop .at)) (entries (getD roles (loop .loop .i) Goals) (payload file (loop .loop .at)))
+  section-is = rw (c .before .role-at .ensures, loop .before .before .pre .2) at (c .judge-section .ensures)
+
+all-sections : (c : tie.After-loop Inv-loop μ-loop) → length roles ≤ c .before .loop .i
+unfolding roles
+all-sections c = c .loop-test .left
+
+loop-holds : tie.Need-loop-holds Inv-loop μ-loop
+loop-holds c =
+    let start = c .before in
+    onward-start _ (rw (start .pre .2) at (start .pre .0)) (start .pre .1)
+
+role-at-requires : tie.Need-role-at-requires Inv-loop μ-loop
+role-at-requires c κs = search needs
+
+judge-section-requires : tie.Need-judge-section-requires Inv-loop μ-loop
+judge-section-requires c κs = search needs
+
+enum-known-fault : tie.Need-enum-known-fault Inv-loop μ-loop
+enum-known-fault c = search needs
+
+returns : tie.Need-returns Inv-loop μ-loop
+returns c =
+    let asked = c .before .before .before in
+    judged-some _ _ _ (onward-fault _ (on asked) (more asked) (section-is asked) (c .before .fault .given .1))
+
+enum-known-end : tie.Need-enum-known-end Inv-loop μ-loop
+enum-known-end c = search needs
+
+note-requires : tie.Need-note-requires Inv-loop μ-loop
+note-requires c κs = search needs
+
+add-i : tie.Need-add-i Inv-loop μ-loop
+add-i c = omega arith
+
+loop-less : tie.Need-loop-less Inv-loop μ-loop
+loop-less c = omega arith
+
+loop-again : tie.Need-loop-again Inv-loop μ-loop
+loop-again c =
+    let asked = c .before .before .before .before in
+    rw (c .note .ensures, asked .before .role-at .ensures)
+    (onward-next _ (on asked) (more asked) (section-is asked) (c .before .before .end .given .1))
+
+sub-size : tie.Need-sub-size Inv-loop μ-loop
+sub-size c = omega arith
+
+returns-2 : tie.Need-returns-2 Inv-loop μ-loop
+returns-2 c = judged-some _ _ _ (onward-left _ (c .before .before .loop .inv) (all-sections (c .before)) (c .if1 .taken))
+
+returns-3 : tie.Need-returns-3 Inv-loop μ-loop
+returns-3 c =
+    let (fine, counts) = onward-end _ (c .before .before .loop .inv) (all-sections (c .before)) (c .if1 .left) in
+    judged-none _ _ _ fine counts
+
+pub judge-rest-spec : {M : Type 1} → statement M
+judge-rest-spec =
+    tie.close
+    (tie.spec
+    Inv-loop
+    μ-loop
+    loop-holds
+    role-at-requires
+    judge-section-requires
+    enum-known-fault
+    returns
+    enum-known-end
+    note-requires
+    add-i
+    loop-less
+    loop-again
+    sub-size
+    returns-2
+    returns-3)

@@ -1,67 +1,91 @@
 -- Conditions: the first entry that passes a test, and the first unmet condition.
 use Prim.Native.Nat.{ℕ}
-use mathlib.Core.Path.{_≡_, refl, ap}
+use mathlib.Core.Path.{_≡_, refl, sym, _∙_, ap}
 use mathlib.Core.Logic.{_↔_, inl, inr}
-use mathlib.Core.Bool.{Bool, true, false, not}
-use mathlib.Core.List.{List, [], _∷_, _++_, List·Memᴰ·head, List·Memᴰ·tail, List·Memᴰ·cases-cons, List·Memᴰ·not-nil}
-use mathlib.Core.Option.{Option, none, some}
+use mathlib.Core.Bool.{Bool, true, false, not, Bool·not-not}
+use mathlib.Core.List.{List, [], _∷_, _++_, map, append-nil}
+use mathlib.Core.List.{List·Memᴰ·head, List·Memᴰ·tail, List·Memᴰ·cases-cons, List·Memᴰ·not-nil}
+use mathlib.Core.Option.{Option, none, some, Option·elim}
 use lib.Dec.{T}
 use Rattle.sets.specs.Sets.{Facts, _∈_}
-use Rattle.meaning.specs.Run.{find, unmet}
+use Rattle.meaning.specs.Run.{Condition, met, conditions, find, unmet}
+use Rattle.meaning.specs.Run.Condition.{positive, negative}
 use Rattle.meaning.specs.Published.{Meets}
 use Rattle.meaning.specs.Promises.{FirstUnmet}
 use Rattle.meaning.specs.Promises.FirstUnmet.{absent, present}
-use Rattle.sets.proofs.Laws.{is-true, is-false, passes, fails, negated, affirmed}
+use Rattle.sets.proofs.Laws.{is-true, is-false, passes, fails, by-test, negated, affirmed}
 
-module _ (p : ℕ → Bool) where
+module _ {ℓ} {A : Type ℓ} (p : A → Bool) where
   -- no entry of the list passes
-  abbrev pub None : List ℕ → Type 0
-  None xs = (x : ℕ) → x ∈ xs → T (p x) → ⊥
+  abbrev pub None : List A → Type ℓ
+  None xs = (x : A) → x ∈ xs → T (p x) → ⊥
 
   -- what is found in the list: no entry, where none passes, or the one that passes with none before it
-  abbrev pub FoundIn : List ℕ → Option ℕ → Type 0
+  abbrev pub FoundIn : List A → Option A → Type ℓ
   FoundIn xs none = None xs
-  FoundIn xs (some x) = (before rest : List ℕ) × (xs ≡ before ++ x ∷ rest) × None before × T (p x)
+  FoundIn xs (some x) = (before rest : List A) × (xs ≡ before ++ x ∷ rest) × None before × T (p x)
 
   -- A list with one more entry that fails has no entry that passes either.
-  none-more : {y : ℕ} {ys : List ℕ} → p y ≡ false → None ys → None (y ∷ ys)
+  none-more : {y : A} {ys : List A} → p y ≡ false → None ys → None (y ∷ ys)
   none-more e h x m t = elim (List·Memᴰ·cases-cons m) [ inl i ↦ fails e (rw i at t) | inr k ↦ h x k t ]
 
   -- find finds the first entry that passes.
-  pub find-is : (xs : List ℕ) → FoundIn xs (find p xs)
+  pub find-is : (xs : List A) → FoundIn xs (find p xs)
   unfolding find
   find-is [] = λ x m. absurd (List·Memᴰ·not-nil m)
   find-is (y ∷ ys) = go (p y) refl (find p ys) (find-is ys)
     where
-      go : (b : Bool) → p y ≡ b → (o : Option ℕ) → FoundIn ys o → FoundIn (y ∷ ys) (elim b as (λ _. Option ℕ) [ true ↦ some y | false ↦ o ])
+      go : (b : Bool) → p y ≡ b → (o : Option A) → FoundIn ys o
+          → FoundIn (y ∷ ys) (elim b as (λ _. Option A) [ true ↦ some y | false ↦ o ])
       go true e o h = ([], ys, refl, λ x m. absurd (List·Memᴰ·not-nil m), passes e)
       go false e none h = none-more e h
       go false e (some x) h = (y ∷ h .0, h .1, ap (λ l. y ∷ l) (h .2), none-more e (h .3), h .4)
 
   -- Where no entry passes, none is found.
-  pub find-none : (xs : List ℕ) → None xs → find p xs ≡ none
+  pub find-none : (xs : List A) → None xs → find p xs ≡ none
   unfolding find
   find-none [] h = refl
-  find-none (x ∷ xs) h = rw (is-false {b = p x} (h x (List·Memᴰ·head refl)), find) (find-none xs (λ y m. h y (List·Memᴰ·tail m)))
+  find-none (x ∷ xs) h =
+      rw (is-false {b = p x} (h x (List·Memᴰ·head refl)), find) (find-none xs (λ y m. h y (List·Memᴰ·tail m)))
 
   -- The entry that passes, with none before it, is found.
-  pub find-some : (before rest : List ℕ) (x : ℕ) → None before → T (p x) → find p (before ++ x ∷ rest) ≡ some x
+  pub find-some : (before rest : List A) (x : A) → None before → T (p x) → find p (before ++ x ∷ rest) ≡ some x
   unfolding find
   find-some [] rest x h t = rw (is-true {b = p x} t, find)
-  find-some (y ∷ ys) rest x h t = rw (is-false {b = p y} (h y (List·Memᴰ·head refl)), find) (find-some ys rest x (λ z m. h z (List·Memᴰ·tail m)) t)
+  find-some (y ∷ ys) rest x h t =
+      rw (is-false {b = p y} (h y (List·Memᴰ·head refl)), find)
+      (find-some ys rest x (λ z m. h z (List·Memᴰ·tail m)) t)
+
+  -- What is found in a list of images and then another is the image of what is found before, or is found in the other.
+  pub find-mapped {ℓ′} : {B : Type ℓ′} (g : B → A) (xs : List B) (ys : List A)
+      → find p (map g xs ++ ys) ≡ Option·elim (find (λ x. p (g x)) xs) (find p ys) (λ x. some (g x))
+  unfolding find Option·elim
+  find-mapped g [] ys = refl
+  find-mapped g (x ∷ xs) ys = by-test (p (g x)) (λ e. rw (e, find)) (λ e. rw (e, find) (find-mapped g xs ys))
 
 module _ (X : Facts) (P N : List ℕ) where
+  -- The first unmet condition is the first of P outside X or, where there is none, the first of N inside.
+  unmet-split : unmet X (conditions P N) ≡ Option·elim (find (λ f. not (X f)) P)
+      (Option·elim (find X N) none (λ f. some (negative f))) (λ f. some (positive f))
+  unfolding unmet conditions met
+  unmet-split =
+      let t : Condition → Bool = λ c. not (met X c) in
+      find-mapped t positive P (map negative N)
+      ∙ ap (λ o. Option·elim (find (λ f. not (X f)) P) o (λ f. some (positive f)))
+      (ap (find t) (sym (append-nil (map negative N))) ∙ find-mapped t negative N [] ∙ simp Bool·not-not)
+
   -- this is the first unmet condition, or it is none and the conditions are met
-  abbrev pub Met : Option ℕ → Type 0
+  abbrev pub Met : Option Condition → Type 0
   Met none = Meets X P N
-  Met (some f) = FirstUnmet X P N f
+  Met (some c) = FirstUnmet X P N c
 
   -- What unmet computes is the first unmet condition, or none where the conditions are met.
-  pub unmet-is : Met (unmet X P N)
-  unfolding unmet
-  unmet-is = go (find (λ f. not (X f)) P) (find-is (λ f. not (X f)) P) (find X N) (find-is X N)
+  pub unmet-is : Met (unmet X (conditions P N))
+  unfolding Option·elim
+  unmet-is = rw unmet-split (go (find (λ f. not (X f)) P) (find-is (λ f. not (X f)) P) (find X N) (find-is X N))
     where
-      go : (o : Option ℕ) → FoundIn (λ f. not (X f)) P o → (q : Option ℕ) → FoundIn X N q → Met (elim o as (λ _. Option ℕ) [ some f ↦ some f | none ↦ q ])
+      go : (o : Option ℕ) → FoundIn (λ f. not (X f)) P o → (q : Option ℕ) → FoundIn X N q
+          → Met (Option·elim o (Option·elim q none (λ f. some (negative f))) (λ f. some (positive f)))
       go (some f) h q k = absent (h .0) (h .1) (h .2) (λ b m. affirmed (X b) (h .3 b m)) (negated (X f) .0 (h .4))
       go none h none k = record { positive = λ f m. affirmed (X f) (h f m); negative = k }
       go none h (some f) k = present (λ b m. affirmed (X b) (h b m)) (k .0) (k .1) (k .2) (k .3) (k .4)
@@ -71,18 +95,32 @@ module _ (X : Facts) (P N : List ℕ) where
   none-outside h f m t = negated (X f) .0 t (h f m)
 
   -- Whatever is the first unmet condition, or none, is what unmet computes.
-  pub unmet-from : (u : Option ℕ) → Met u → unmet X P N ≡ u
-  unfolding unmet
-  unmet-from none h = rw (find-none (λ f. not (X f)) P (none-outside (h .positive)), find-none X N (h .negative), unmet)
-  unmet-from (some f) h = elim h [
-    | absent met rest e h n ↦ rw (e, find-some (λ f. not (X f)) met rest f (none-outside h) (negated (X f) .1 n), unmet)
-    | present h met rest e n t ↦ rw (find-none (λ f. not (X f)) P (none-outside h), e, find-some X met rest f n t, unmet)
+  pub unmet-from : (u : Option Condition) → Met u → unmet X (conditions P N) ≡ u
+  unfolding Option·elim
+  unmet-from none h =
+      rw (unmet-split, find-none (λ f. not (X f)) P (none-outside (h .positive)), find-none X N (h .negative))
+  unmet-from (some c) h = elim h [
+    | absent {f} met rest e h n ↦
+        rw (unmet-split, e, find-some (λ f. not (X f)) met rest f (none-outside h) (negated (X f) .1 n))
+    | present {f} h met rest e n t ↦
+        rw (unmet-split, find-none (λ f. not (X f)) P (none-outside h), e, find-some X met rest f n t)
   ]
 
   -- No condition is unmet exactly if the conditions are met.
-  pub unmet-none : (unmet X P N ≡ none) ↔ Meets X P N
+  pub unmet-none : (unmet X (conditions P N) ≡ none) ↔ Meets X P N
   unmet-none = (λ e. rw e at unmet-is, unmet-from none)
 
-  -- A fact is the first unmet condition by computation exactly if it is so by its place.
-  pub unmet-some : (f : ℕ) → (unmet X P N ≡ some f) ↔ FirstUnmet X P N f
-  unmet-some f = (λ e. rw e at unmet-is, unmet-from (some f))
+  -- A condition is the first unmet one by computation exactly if it is so by its place.
+  pub unmet-some : (c : Condition) → (unmet X (conditions P N) ≡ some c) ↔ FirstUnmet X P N c
+  unmet-some c = (λ e. rw e at unmet-is, unmet-from (some c))
+
+  -- A positive condition that is the first unmet one is the first of P outside X.
+  pub first-absent : {f : ℕ} → FirstUnmet X P N (positive f)
+      → (met rest : List ℕ) × (P ≡ met ++ f ∷ rest) × ((b : ℕ) → b ∈ met → T (X b)) × (T (X f) → ⊥)
+  first-absent (absent met rest e h n) = (met, rest, e, h, n)
+
+  -- A negative one is the first of N inside X, and all of P is inside.
+  pub first-present : {f : ℕ} → FirstUnmet X P N (negative f)
+      → ((b : ℕ) → b ∈ P → T (X b)) × (met rest : List ℕ) × (N ≡ met ++ f ∷ rest)
+      × ((b : ℕ) → b ∈ met → T (X b) → ⊥) × T (X f)
+  first-present (present h met rest e n t) = (h, met, rest, e, n, t)

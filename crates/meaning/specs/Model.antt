@@ -1,7 +1,9 @@
--- What a model and a trace are, as lists of numbers (document 01, "Closure, step, goal" and "File layouts").
+-- What a model, a trace and a state are, as lists and sets of numbers
+-- (document 01, "Closure, step, goal" and "File layouts").
 use Prim.Native.Nat.{ℕ}
 use mathlib.Core.List.{List, []}
 use lib.ListN.{getD}
+use Rattle.sets.specs.Sets.{Facts, listed}
 
 -- "A clause is its head and then the body facts"
 pub record Clause : Type 0 where
@@ -32,9 +34,19 @@ pub record Trace : Type 0 where
   pub goal : ℕ
   pub steps : List ℕ
 
--- "Records are numbered from 0.": the rule and the attack state of a number; one with empty lists where the model lacks it
+-- "Records are numbered from 0.": the rule and the attack state of a number; one with empty lists where the model
+-- lacks it
 unfoldable pub ruleOf : Model → ℕ → Rule
 ruleOf m k = getD (m .rules) k (record { P = []; N = []; A = [] })
 
 unfoldable pub goalOf : Model → ℕ → Goal
 goalOf m g = getD (m .goals) g (record { P = []; N = [] })
+
+-- "A state is a set of facts below F"
+pub record State : Type 0 where
+  pub facts : Facts
+
+-- the initial state: the initial facts and no others
+unfoldable pub start : Model → State
+unfolding listed
+start m = record { facts = listed (m .initial) }

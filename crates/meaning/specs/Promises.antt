@@ -1,13 +1,15 @@
--- What demands 2 and 3 promise, as statements about the definitions beside this file. proofs/Theorems.antt proves each of them.
+-- What demands 2 and 3 promise, as statements about the definitions beside this file.
+-- proofs/Theorems.antt proves each of them.
 use Prim.Native.Nat.{ℕ, _+_, _<_}
 use mathlib.Core.Path.{_≡_}
-use mathlib.Core.List.{List, _∷_, _++_}
+use mathlib.Core.List.{List, _∷_, _++_, List·Nodup}
 use lib.Dec.{T}
 use lib.ListN.{length, getD, take}
-use Rattle.sets.specs.Sets.{Facts, listed, size, _∈_}
-use Rattle.meaning.specs.Model.{Clause, Model, Trace, ruleOf, goalOf}
-use Rattle.meaning.specs.Rounds.{round, rounds, closure, roundNumber}
-use Rattle.meaning.specs.Run.{Outcome}
+use Rattle.sets.specs.Sets.{Facts, size, _∈_}
+use Rattle.meaning.specs.Model.{Clause, Model, Trace, State, ruleOf, goalOf, start}
+use Rattle.meaning.specs.Rounds.{round, rounds, closure}
+use Rattle.meaning.specs.Run.{Condition, Ending, Outcome}
+use Rattle.meaning.specs.Run.Condition.{positive, negative}
 use Rattle.meaning.specs.Published.{HC, Path, AttackMet}
 use Rattle.meaning.specs.Published.Path.{here, step}
 
@@ -16,43 +18,52 @@ pub record IsRounds (cs : List Clause) (S : Facts) (n : ℕ) : Type 0 where
   pub still : (k f : ℕ) → round cs S (n + k) f ≡ round cs S n f
   pub first : (r : ℕ) → r < n → ((f : ℕ) → round cs S (r + 1) f ≡ round cs S r f) → ⊥
 
+-- xs has the different clause heads that are missing from the state, each of them once
+pub record AreMissingHeads (cs : List Clause) (S : Facts) (xs : List ℕ) : Type 0 where
+  pub once : List·Nodup xs
+  pub heads : (f : ℕ) → f ∈ xs → (c : Clause) × (c ∈ cs) × (c .head ≡ f)
+  pub missing : (f : ℕ) → f ∈ xs → T (S f) → ⊥
+  pub all : (c : Clause) → c ∈ cs → (T (S (c .head)) → ⊥) → c .head ∈ xs
+
 -- n is the fact's round number: "the first round it stands in, or 65,535 if it is outside the closure"
 pub record IsRoundNumber (cs : List Clause) (S : Facts) (f n : ℕ) : Type 0 where
   pub stands : T (closure cs S f) → T (round cs S n f)
   pub first : T (closure cs S f) → (r : ℕ) → r < n → T (round cs S r f) → ⊥
   pub outside : (T (closure cs S f) → ⊥) → n ≡ 65535
 
--- f is the first condition not met in X: a fact of P that is not in X, all of P before it being in X; or, where all of P is in X, a fact of N that is in X, none of N before it being so
-pub data FirstUnmet (X : Facts) (P N : List ℕ) (f : ℕ) : Type 0 where
-  absent : (met rest : List ℕ) → P ≡ met ++ f ∷ rest → ((b : ℕ) → b ∈ met → T (X b)) → (T (X f) → ⊥) → FirstUnmet X P N f
-  present :
-      ((b : ℕ) → b ∈ P → T (X b)) → (met rest : List ℕ) → N ≡ met ++ f ∷ rest → ((b : ℕ) → b ∈ met → T (X b) → ⊥) → T (X f)
-      → FirstUnmet X P N f
+-- The first condition not met in X: a fact of P that is not in X, all of P before it being in X; or, where all of P
+-- is in X, a fact of N that is in X, none of N before it being so.
+pub data FirstUnmet (X : Facts) (P N : List ℕ) : Condition → Type 0 where
+  absent : {f : ℕ} (met rest : List ℕ) → P ≡ met ++ f ∷ rest → ((b : ℕ) → b ∈ met → T (X b)) → (T (X f) → ⊥)
+      → FirstUnmet X P N (positive f)
+  present : {f : ℕ} → ((b : ℕ) → b ∈ P → T (X b)) → (met rest : List ℕ) → N ≡ met ++ f ∷ rest
+      → ((b : ℕ) → b ∈ met → T (X b) → ⊥) → T (X f) → FirstUnmet X P N (negative f)
 
 -- "the sum of the round counts of all states reached, the initial one included"
-unfoldable pub roundsOn : {m : Model} {S S' : Facts} {ks : List ℕ} → Path m S ks S' → ℕ
+unfoldable pub roundsOn : {m : Model} {S S' : State} {ks : List ℕ} → Path m S ks S' → ℕ
 unfolding rounds
-roundsOn {m} {S} here = rounds (m .clauses) S
-roundsOn {m} {S} (step t p) = rounds (m .clauses) S + roundsOn p
+roundsOn {m} {S} here = rounds (m .clauses) (S .facts)
+roundsOn {m} {S} (step t p) = rounds (m .clauses) (S .facts) + roundsOn p
 
--- how a run of the steps ks towards the attack state g can end, with this number, step, fact and last state: accepted (0), blocked (10) or not met (11)
-pub data Ends (m : Model) (g : ℕ) (ks : List ℕ) (o : Outcome) : Type 0 where
-  attack : o .number ≡ 0 → o .step ≡ length ks → o .fact ≡ 65535 → AttackMet m g (o .state) → Ends m g ks o
-  blocked :
-      o .number ≡ 10 → o .step < length ks → (X : Facts) → HC (m .clauses) (o .state) X
-      → FirstUnmet X (ruleOf m (getD ks (o .step) 0) .P) (ruleOf m (getD ks (o .step) 0) .N) (o .fact) → Ends m g ks o
-  notMet :
-      o .number ≡ 11 → o .step ≡ length ks → (X : Facts) → HC (m .clauses) (o .state) X
-      → FirstUnmet X (goalOf m g .P) (goalOf m g .N) (o .fact) → Ends m g ks o
+-- how a run of the steps ks towards the attack state g can end in the last state that it reached: accepted, blocked
+-- or not met
+pub data EndsSo (m : Model) (g : ℕ) (ks : List ℕ) (o : Outcome) : Type 0 where
+  attack : o .ending ≡ Ending.attack → o .step ≡ length ks → AttackMet m g (o .state) → EndsSo m g ks o
+  blocked : (c : Condition) → o .ending ≡ Ending.blocked c → o .step < length ks
+      → (X : Facts) → HC (m .clauses) (o .state .facts) X
+      → FirstUnmet X (ruleOf m (getD ks (o .step) 0) .P) (ruleOf m (getD ks (o .step) 0) .N) c → EndsSo m g ks o
+  notMet : (c : Condition) → o .ending ≡ Ending.notMet c → o .step ≡ length ks
+      → (X : Facts) → HC (m .clauses) (o .state .facts) X
+      → FirstUnmet X (goalOf m g .P) (goalOf m g .N) c → EndsSo m g ks o
 
--- o is the outcome of the run from S, in document 003's terms: the steps before the one named are transitions to the last state reached, and there it ends
-pub record JudgedFrom (m : Model) (g : ℕ) (S : Facts) (ks : List ℕ) (o : Outcome) : Type 0 where
+-- o is the outcome of the run from S, in document 003's terms: the steps before the one named are transitions to the
+-- last state reached, and there it ends
+pub record IsOutcomeFrom (m : Model) (g : ℕ) (S : State) (ks : List ℕ) (o : Outcome) : Type 0 where
   pub path : Path m S (take (o .step) ks) (o .state)
-  pub ends : Ends m g ks o
+  pub ends : EndsSo m g ks o
   pub rounds : o .rounds ≡ roundsOn path
-  pub held : o .held ≡ size (o .state) (m .F)
-  pub roundNumbers : (f : ℕ) → o .roundNumbers f ≡ roundNumber (m .clauses) (o .state) f
+  pub held : o .held ≡ size (o .state .facts) (m .F)
 
 -- o is the outcome of the trace on the model
-abbrev pub Judged : Model → Trace → Outcome → Type 0
-Judged m t o = JudgedFrom m (t .goal) (listed (m .initial)) (t .steps) o
+abbrev pub IsOutcome : Model → Trace → Outcome → Type 0
+IsOutcome m t o = IsOutcomeFrom m (t .goal) (start m) (t .steps) o

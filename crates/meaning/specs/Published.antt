@@ -1,54 +1,55 @@
--- Document 003's own notions (section 2.2), ground, as document 01 takes them: HC(S), the transition S ⇒ S', a path, an attack state met.
--- Nothing here speaks of rounds.
+-- Document 003's own notions (section 2.2), ground, as document 01 takes them: HC(S), the transition S ⇒ S', a path,
+-- an attack state met. Nothing here speaks of rounds.
 use Prim.Native.Nat.{ℕ, _<_}
 use mathlib.Core.Logic.{_⊎_, _↔_}
 use mathlib.Core.List.{List, [], _∷_}
 use lib.Dec.{T}
 use lib.ListN.{length}
-use Rattle.sets.specs.Sets.{Facts, listed, _∈_}
-use Rattle.meaning.specs.Model.{Clause, Rule, Model, Trace, ruleOf, goalOf}
+use Rattle.sets.specs.Sets.{Facts, _∈_}
+use Rattle.meaning.specs.Model.{Clause, Rule, Model, Trace, State, ruleOf, goalOf, start}
 
 -- X holds S and obeys every clause: "P ∈ S' if Ĥ ∧ S' ⊨ P"
-pub record Closed (cs : List Clause) (S X : Facts) : Type 0 where
+pub record Holding (cs : List Clause) (S X : Facts) : Type 0 where
   pub holds : (f : ℕ) → T (S f) → T (X f)
   pub obeys : (c : Clause) → c ∈ cs → ((b : ℕ) → b ∈ c .body → T (X b)) → T (X (c .head))
 
 -- X is HC(S): "the least set S' ⊇ S such that" it obeys the clauses
 pub record HC (cs : List Clause) (S X : Facts) : Type 0 where
-  pub closed : Closed cs S X
-  pub least : (Y : Facts) → Closed cs S Y → (f : ℕ) → T (X f) → T (Y f)
+  pub holding : Holding cs S X
+  pub least : (Y : Facts) → Holding cs S Y → (f : ℕ) → T (X f) → T (Y f)
 
 -- "HC(S) ⊨ L": every fact of P and no fact of N is in X
 pub record Meets (X : Facts) (P N : List ℕ) : Type 0 where
   pub positive : (f : ℕ) → f ∈ P → T (X f)
   pub negative : (f : ℕ) → f ∈ N → T (X f) → ⊥
 
--- "The next state is (S without P) together with A.": 003's S' without its exemptions, which 01 doesn't take over (docs/DECISIONS.md, "Meaning")
-unfoldable pub Next : Rule → Facts → Facts → Type 0
-Next r S S' = (f : ℕ) → T (S' f) ↔ ((T (S f) × (f ∈ r .P → ⊥)) ⊎ f ∈ r .A)
+-- "The next state is (S without P) together with A.": 003's S' without its exemptions, which 01 doesn't take over
+-- (docs/DECISIONS.md, "Meaning")
+unfoldable pub Next : Rule → State → State → Type 0
+Next r S S' = (f : ℕ) → T (S' .facts f) ↔ ((T (S .facts f) × (f ∈ r .P → ⊥)) ⊎ f ∈ r .A)
 
 -- "S ⇒ S'" by the model's rule k
-pub record Transition (m : Model) (k : ℕ) (S S' : Facts) : Type 0 where
+pub record Transition (m : Model) (k : ℕ) (S S' : State) : Type 0 where
   pub rule : k < length (m .rules)
   pub closure : Facts
-  pub isHC : HC (m .clauses) S closure
+  pub isHC : HC (m .clauses) (S .facts) closure
   pub meets : Meets closure (ruleOf m k .P) (ruleOf m k .N)
   pub next : Next (ruleOf m k) S S'
 
 -- the rules of the list, one after the other, lead from S to S'
-pub data Path (m : Model) : Facts → List ℕ → Facts → Type 0 where
-  here : {S : Facts} → Path m S [] S
-  step : {k : ℕ} {ks : List ℕ} {S S' S'' : Facts} → Transition m k S S' → Path m S' ks S'' → Path m S (k ∷ ks) S''
+pub data Path (m : Model) : State → List ℕ → State → Type 0 where
+  here : {S : State} → Path m S [] S
+  step : {k : ℕ} {ks : List ℕ} {S S' S'' : State} → Transition m k S S' → Path m S' ks S'' → Path m S (k ∷ ks) S''
 
 -- the model's attack state g is met in S
-pub record AttackMet (m : Model) (g : ℕ) (S : Facts) : Type 0 where
+pub record AttackMet (m : Model) (g : ℕ) (S : State) : Type 0 where
   pub goal : g < length (m .goals)
   pub closure : Facts
-  pub isHC : HC (m .clauses) S closure
+  pub isHC : HC (m .clauses) (S .facts) closure
   pub meets : Meets closure (goalOf m g .P) (goalOf m g .N)
 
 -- demand 2 (docs/PROMISES.md): every step is a transition, and the last state's closure meets the named attack state
 pub record TrueAttack (m : Model) (t : Trace) : Type 0 where
-  pub last : Facts
-  pub path : Path m (listed (m .initial)) (t .steps) last
+  pub last : State
+  pub path : Path m (start m) (t .steps) last
   pub met : AttackMet m (t .goal) last

@@ -28,7 +28,8 @@ unfoldable pub obeys : List Clause → Facts → Bool
 unfolding every stands
 obeys cs X = every (λ c. not (stands X c) || X (c .head)) cs
 
--- "The number of rounds is that round's number": the first round that equals the next one. There is one among the rounds from 0 to the number of clauses.
+-- "The number of rounds is that round's number": the first round that equals the next one. There is one among the
+-- rounds from 0 to the number of clauses.
 unfoldable pub rounds : List Clause → Facts → ℕ
 unfolding obeys round first
 rounds cs S = first (λ r. obeys cs (round cs S r)) (length cs)

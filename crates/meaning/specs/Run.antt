@@ -1,63 +1,121 @@
--- The outcome of a run: steps, the first unmet condition, the sum of rounds, what is held (document 01, "Closure, step, goal" and "The verdict also has").
+-- A run: conditions and the first unmet one, the steps up to the last state reached, and what is asked of that state
+-- (document 01, "Closure, step, goal" and "The verdict also has").
 use Prim.Native.Nat.{ℕ, zero, suc, _+_}
 use mathlib.Core.Bool.{Bool, true, false, not, _&&_, _||_}
-use mathlib.Core.List.{List, [], _∷_}
+use mathlib.Core.List.{List, [], _∷_, _++_, map}
 use mathlib.Core.Option.{Option, none, some}
 use lib.Dec.{ltb}
 use lib.ListN.{length}
 use Rattle.sets.specs.Sets.{Facts, every, listed, size}
-use Rattle.meaning.specs.Model.{Rule, Model, Trace, ruleOf, goalOf}
-use Rattle.meaning.specs.Rounds.{rounds, closure, roundNumber}
+use Rattle.meaning.specs.Model.{Rule, Model, Trace, State, ruleOf, goalOf, start}
+use Rattle.meaning.specs.Rounds.{rounds, closure}
+
+-- ---- conditions
+
+-- "positive conditions P, negative conditions N": one of them, with its fact
+pub data Condition : Type 0 where
+  positive : ℕ → Condition
+  negative : ℕ → Condition
+
+-- "every fact of P and no fact of N is in the closure"
+unfoldable pub met : Facts → Condition → Bool
+met X (positive f) = X f
+met X (negative f) = not (X f)
+
+-- "P in its order and then N in its order"
+unfoldable pub conditions : List ℕ → List ℕ → List Condition
+conditions P N = map positive P ++ map negative N
 
 -- the first entry of the list that passes the test
-unfoldable pub find : (ℕ → Bool) → List ℕ → Option ℕ
+unfoldable pub find {ℓ} : {A : Type ℓ} → (A → Bool) → List A → Option A
 find p [] = none
 find p (x ∷ xs) = elim (p x) [ true ↦ some x | false ↦ find p xs ]
 
--- "the first unmet condition, P in its order and then N in its order": a fact of P that is not in the closure, or one of N that is
-unfoldable pub unmet : Facts → List ℕ → List ℕ → Option ℕ
-unfolding find
-unmet X P N = elim (find (λ f. not (X f)) P) [ some f ↦ some f | none ↦ find X N ]
+-- "the first unmet condition": the first of them that the set doesn't meet
+unfoldable pub unmet : Facts → List Condition → Option Condition
+unfolding find met
+unmet X = find (λ c. not (met X c))
+
+-- ---- the steps
 
 -- "The next state is (S without P) together with A."
-unfoldable pub after : Rule → Facts → Facts
+unfoldable pub after : Rule → State → State
 unfolding listed
-after r S f = S f && not (listed (r .P) f) || listed (r .A) f
+after r S = record { facts = λ f. S .facts f && not (listed (r .P) f) || listed (r .A) f }
 
--- What a run comes to: the verdict's number, step, fact, rounds and held, the last state reached and its round numbers.
-pub record Outcome : Type 0 where
-  pub number : ℕ
-  pub step : ℕ
-  pub fact : ℕ
-  pub rounds : ℕ
-  pub held : ℕ
-  pub state : Facts
-  pub roundNumbers : ℕ → ℕ
+-- Where some steps lead: how many of them fire, the rounds of all states before the last one reached, that state, and
+-- the first unmet condition of the step that can't fire, if there is one.
+pub record Reached : Type 0 where
+  pub fired : ℕ
+  pub earlier : ℕ
+  pub state : State
+  pub stop : Option Condition
 
--- the run ends in this state with this number and fact, before any step is counted
-unfoldable pub stopped : Model → Facts → ℕ → ℕ → Outcome
-unfolding rounds size roundNumber
-stopped m S n f = record { number = n; step = zero; fact = f; rounds = rounds (m .clauses) S; held = size S (m .F); state = S; roundNumbers = roundNumber (m .clauses) S }
+-- no step fires from this state
+unfoldable pub stays : State → Option Condition → Reached
+stays S c = record { fired = zero; earlier = zero; state = S; stop = c }
 
--- one step more was taken before, from a state with this number of rounds
-unfoldable pub later : ℕ → Outcome → Outcome
-later n o = record { number = o .number; step = suc (o .step); fact = o .fact; rounds = n + o .rounds; held = o .held; state = o .state; roundNumbers = o .roundNumbers }
+-- one step more fires before, from a state with so many rounds
+unfoldable pub onward : ℕ → Reached → Reached
+onward n r = record { fired = suc (r .fired); earlier = n + r .earlier; state = r .state; stop = r .stop }
 
--- The run from a state: each step's rule fires or blocks the run (10); after the last, the attack state is met (0) or not (11).
-unfoldable pub runFrom : Model → ℕ → Facts → List ℕ → Outcome
-unfolding unmet closure ruleOf goalOf stopped later after
-runFrom m g S [] =
-    elim (unmet (closure (m .clauses) S) (goalOf m g .P) (goalOf m g .N)) [ none ↦ stopped m S 0 65535 | some f ↦ stopped m S 11 f ]
-runFrom m g S (k ∷ ks) =
-    elim (unmet (closure (m .clauses) S) (ruleOf m k .P) (ruleOf m k .N)) [
-      | none ↦ later (rounds (m .clauses) S) (runFrom m g (after (ruleOf m k) S) ks)
-      | some f ↦ stopped m S 10 f
+-- the steps from a state on, until one can't fire
+unfoldable pub reach : Model → State → List ℕ → Reached
+unfolding unmet conditions closure ruleOf stays onward after
+reach m S [] = stays S none
+reach m S (k ∷ ks) =
+    elim (unmet (closure (m .clauses) (S .facts)) (conditions (ruleOf m k .P) (ruleOf m k .N))) [
+      | none ↦ onward (rounds (m .clauses) (S .facts)) (reach m (after (ruleOf m k) S) ks)
+      | some c ↦ stays S (some c)
     ]
 
--- "all states reached, the initial one included": the run starts in the initial state
+-- ---- the end
+
+-- How a run ends: the attack state is met; a step is blocked by a condition; or the attack state has one that isn't
+-- met.
+pub data Ending : Type 0 where
+  attack : Ending
+  blocked : Condition → Ending
+  notMet : Condition → Ending
+
+-- what is asked of the last state: an attack state "is met exactly if all of P and none of N are in the closure of the
+-- last state"
+unfoldable pub asked : Model → ℕ → State → Ending
+unfolding unmet conditions closure goalOf
+asked m g S =
+    elim (unmet (closure (m .clauses) (S .facts)) (conditions (goalOf m g .P) (goalOf m g .N))) [
+      | none ↦ attack
+      | some c ↦ notMet c
+    ]
+
+-- "Then 10 at the first blocked step, else 11 or 0."
+unfoldable pub ending : Model → ℕ → Reached → Ending
+unfolding asked
+ending m g r = elim (r .stop) [ some c ↦ blocked c | none ↦ asked m g (r .state) ]
+
+-- What a run comes to: its ending, the verdict's step, rounds and held, and the last state reached.
+pub record Outcome : Type 0 where
+  pub ending : Ending
+  pub step : ℕ
+  pub rounds : ℕ
+  pub held : ℕ
+  pub state : State
+
+-- "the sum of the round counts of all states reached" and "facts in the last state reached (closure not counted)"
+unfoldable pub outcomeOf : Model → ℕ → Reached → Outcome
+unfolding ending rounds size
+outcomeOf m g r = record {
+  ending = ending m g r;
+  step = r .fired;
+  rounds = r .earlier + rounds (m .clauses) (r .state .facts);
+  held = size (r .state .facts) (m .F);
+  state = r .state;
+}
+
+-- the run starts in the initial state
 unfoldable pub run : Model → Trace → Outcome
-unfolding runFrom listed
-run m t = runFrom m (t .goal) (listed (m .initial)) (t .steps)
+unfolding outcomeOf reach start
+run m t = outcomeOf m (t .goal) (reach m (start m) (t .steps))
 
 -- the trace names no attack state or rule that the model lacks
 unfoldable pub named : Model → Trace → Bool

@@ -2,10 +2,10 @@
 use Prim.Native.Nat.{ℕ, zero, suc, _≤_, _<_}
 use native.Mathlib.Nat.{eq-or-lt-of-le}
 use native.Mathlib.Omega.{arith}
-use mathlib.Core.Path.{_≡_, refl, sym, _∙_, ap}
+use mathlib.Core.Path.{_≡_, refl, sym, _∙_}
 use mathlib.Core.Logic.{_↔_, _⊎_, inl, inr}
 use mathlib.Core.Bool.{Bool, true, false, true≢false, not, _&&_, _||_}
-use mathlib.Core.List.{List, [], _∷_, map, List·Memᴰ·head, List·Memᴰ·tail, Memᴰ·cast}
+use mathlib.Core.List.{List, [], _∷_, List·Memᴰ·head, List·Memᴰ·tail, Memᴰ·cast}
 use lib.Dec.{T, eqb, eqb→eq, eqb-refl}
 use Rattle.sets.specs.Sets.{every, any, listed, first, _∈_}
 
@@ -66,11 +66,6 @@ implies false b = (λ t s. absurd s, λ h. tt)
 pub implies-out : (a b : Bool) → (T (not a || b) → ⊥) → T a × (T b → ⊥)
 implies-out true b h = (tt, h)
 implies-out false b h = absurd (h tt)
-
--- What a list has, the list of its images has the image of.
-pub mapped {ℓ ℓ′} : {A : Type ℓ} {B : Type ℓ′} (g : A → B) {x : A} {xs : List A} → x ∈ xs → g x ∈ map g xs
-mapped g (List·Memᴰ·head e) = List·Memᴰ·head (ap g e)
-mapped g (List·Memᴰ·tail m) = List·Memᴰ·tail (mapped g m)
 
 module _ {ℓ} {A : Type ℓ} (p : A → Bool) where
   -- Where every entry of a list passes, each one does.

@@ -1,0 +1,121 @@
+-- What steps reach, and how a run ends there, in document 003's terms: the run's outcome is the trace's.
+use Prim.Native.Nat.{ℕ, suc, _+_, _<_}
+use native.Mathlib.Nat.{zero-add, add-assoc}
+use native.Mathlib.Omega.{arith}
+use mathlib.Core.Path.{_≡_, refl, _∙_, ap}
+use mathlib.Core.Logic.{inl, inr}
+use mathlib.Core.Bool.{not, _&&_}
+use mathlib.Core.List.{List, [], _∷_, List·Memᴰ·head, List·Memᴰ·tail}
+use mathlib.Core.Option.{Option, none, some}
+use lib.ListN.{length, getD, take}
+use Rattle.sets.specs.Sets.{Facts, listed, _∈_}
+use Rattle.meaning.specs.Model.{Rule, Model, State, ruleOf, goalOf}
+use Rattle.meaning.specs.Rounds.{rounds, closure}
+use Rattle.meaning.specs.Run.{Condition, conditions, unmet, after, Reached, stays, onward, reach}
+use Rattle.meaning.specs.Run.{asked, ending, outcomeOf}
+use Rattle.meaning.specs.Published.{HC, Meets, Next, Transition, Path}
+use Rattle.meaning.specs.Published.Path.{here, step}
+use Rattle.meaning.specs.Promises.{FirstUnmet, roundsOn, EndsSo, IsOutcomeFrom}
+use Rattle.meaning.specs.Promises.EndsSo.{attack, blocked, notMet}
+use Rattle.sets.proofs.Laws.{both, either, negated, listed-is}
+use Rattle.meaning.proofs.Closing.{closure-is-HC}
+use Rattle.meaning.proofs.Meeting.{Met, unmet-is}
+
+-- The state after a rule is (the state without P) together with A.
+pub after-is : (r : Rule) (S : State) → Next r S (after r S)
+unfolding after Next
+after-is r S f =
+    let keeps = S .facts f && not (listed (r .P) f) in (
+      λ t. elim (either keeps (listed (r .A) f) .0 t) [
+        | inl k ↦
+            let (s, n) = both (S .facts f) (not (listed (r .P) f)) .0 k in
+            inl (s, λ m. negated (listed (r .P) f) .0 n (listed-is (r .P) f .1 m))
+        | inr a ↦ inr (listed-is (r .A) f .0 a)
+      ],
+      λ s. either keeps (listed (r .A) f) .1 (elim s [
+        | inl k ↦
+            let n = negated (listed (r .P) f) .1 (λ t. k .1 (listed-is (r .P) f .0 t)) in
+            inl (both (S .facts f) (not (listed (r .P) f)) .1 (k .0, n))
+        | inr m ↦ inr (listed-is (r .A) f .1 m)
+      ]),
+    )
+
+-- the closure by the model's clauses
+abbrev pub closed : Model → State → Facts
+closed m S = closure (m .clauses) (S .facts)
+
+module _ (m : Model) where
+  -- It is HC of the state.
+  pub closed-is : (S : State) → HC (m .clauses) (S .facts) (closed m S)
+  closed-is S = closure-is-HC (m .clauses) (S .facts)
+
+  -- the first condition of rule k that a state leaves unmet, if there is one
+  abbrev pub unmetIn : State → ℕ → Option Condition
+  unmetIn S k = unmet (closed m S) (conditions (ruleOf m k .P) (ruleOf m k .N))
+
+  -- A rule of the model whose conditions are met leads on.
+  pub fires : (k : ℕ) (S : State) → k < length (m .rules) → Meets (closed m S) (ruleOf m k .P) (ruleOf m k .N)
+      → Transition m k S (after (ruleOf m k) S)
+  fires k S l u =
+      record { rule = l; closure = closed m S; isHC = closed-is S; meets = u; next = after-is (ruleOf m k) S }
+
+  -- after n of the steps, in S: they are all, or a condition of the next one is the first that is unmet
+  abbrev Stops : List ℕ → ℕ → State → Option Condition → Type 0
+  Stops ks n S none = n ≡ length ks
+  Stops ks n S (some c) =
+      (n < length ks) × FirstUnmet (closed m S) (ruleOf m (getD ks n 0) .P) (ruleOf m (getD ks n 0) .N) c
+
+  -- So they stop with one step more before.
+  stops-onward : (k n : ℕ) (ks : List ℕ) (S : State) (u : Option Condition) → Stops ks n S u
+      → Stops (k ∷ ks) (suc n) S u
+  stops-onward k n ks S none e = ap suc e
+  stops-onward k n ks S (some c) (l, u) = (omega arith, u)
+
+  -- the steps lead from S to what is reached
+  abbrev Leads : State → List ℕ → Reached → Type 0
+  Leads S ks r =
+      (p : Path m S (take (r .fired) ks) (r .state))
+      × (r .earlier + rounds (m .clauses) (r .state .facts) ≡ roundsOn p) × Stops ks (r .fired) (r .state) (r .stop)
+
+  -- They do, if the model has their rules.
+  reach-leads : (ks : List ℕ) → ((k : ℕ) → k ∈ ks → k < length (m .rules)) → (S : State) → Leads S ks (reach m S ks)
+  unfolding reach stays onward roundsOn
+  reach-leads [] h S = (here, zero-add _, refl)
+  reach-leads (k ∷ ks) h S =
+      go (unmetIn S k) refl (unmet-is (closed m S) (ruleOf m k .P) (ruleOf m k .N))
+      (reach-leads ks (λ j i. h j (List·Memᴰ·tail i)) (after (ruleOf m k) S))
+    where
+      go : (u : Option Condition) → unmetIn S k ≡ u → Met (closed m S) (ruleOf m k .P) (ruleOf m k .N) u
+          → Leads (after (ruleOf m k) S) ks (reach m (after (ruleOf m k) S) ks) → Leads S (k ∷ ks) (reach m S (k ∷ ks))
+      go none i u (p, e, s) = rw (i, reach) (
+        step (fires k S (h k (List·Memᴰ·head refl)) u) p,
+        add-assoc _ (reach m (after (ruleOf m k) S) ks .earlier) _ ∙ ap (λ n. rounds (m .clauses) (S .facts) + n) e,
+        stops-onward k _ ks _ (reach m (after (ruleOf m k) S) ks .stop) s,
+      )
+      go (some c) i u l = rw (i, reach) (here, zero-add _, (omega arith, u))
+
+module _ (m : Model) (g : ℕ) where
+  -- Where the steps stop, the run ends.
+  ends-so : g < length (m .goals) → (ks : List ℕ) (n e : ℕ) (S : State) (u : Option Condition) → Stops m ks n S u
+      → EndsSo m g ks (outcomeOf m g (record { fired = n; earlier = e; state = S; stop = u }))
+  unfolding outcomeOf ending asked
+  ends-so l ks n e S (some c) (s, u) = blocked c refl s (closed m S) (closed-is m S) u
+  ends-so l ks n e S none s =
+      go (unmet (closed m S) (conditions (goalOf m g .P) (goalOf m g .N))) refl
+      (unmet-is (closed m S) (goalOf m g .P) (goalOf m g .N))
+    where
+      go : (u : Option Condition) → unmet (closed m S) (conditions (goalOf m g .P) (goalOf m g .N)) ≡ u
+          → Met (closed m S) (goalOf m g .P) (goalOf m g .N) u
+          → EndsSo m g ks (outcomeOf m g (record { fired = n; earlier = e; state = S; stop = none }))
+      go none i u =
+          attack (rw (i, asked)) s (record { goal = l; closure = closed m S; isHC = closed-is m S; meets = u })
+      go (some c) i u = notMet c (rw (i, asked)) s (closed m S) (closed-is m S) u
+
+  -- The run's outcome from a state is the one there, if the model has the attack state and the rules.
+  pub run-is-from : g < length (m .goals) → (ks : List ℕ) → ((k : ℕ) → k ∈ ks → k < length (m .rules)) → (S : State)
+      → IsOutcomeFrom m g S ks (outcomeOf m g (reach m S ks))
+  unfolding outcomeOf
+  run-is-from l ks h S =
+      let r = reach m S ks in
+      let (p, e, s) = reach-leads m ks h S in
+      record { path = p; ends = ends-so l ks (r .fired) (r .earlier) (r .state) (r .stop) s; rounds = e; held = refl }

@@ -1,0 +1,179 @@
+-- Laws for code that runs: the steps from one of their states on, states below F, and conditions by their index.
+use Prim.Native.Nat.{ℕ, zero, suc, _+_, _-_, _≤_, _<_}
+use native.Mathlib.Nat.{zero-add, add-zero, add-suc, suc-add, add-assoc, add-sub-of-le, eq-or-lt-of-le}
+use native.Mathlib.Numerals.{add-one}
+use native.Mathlib.Omega.{arith}
+use mathlib.Core.Path.{_≡_, refl, sym, _∙_, ap}
+use mathlib.Core.Logic.{inl, inr}
+use mathlib.Core.Bool.{Bool, true, false}
+use mathlib.Core.List.{List, [], _∷_, map, List·Memᴰ·head, List·Memᴰ·tail}
+use mathlib.Core.Option.{Option, none, some}
+use lib.ListN.{length, getD, drop, drop-of-length-le, length-append, length-map, List·getD-append}
+use lib.Seq.{drop-cons, getD-append-add}
+use Rattle.sets.specs.Sets.{Facts, listed, size, _∈_}
+use Rattle.meaning.specs.Model.{Rule, Model, Trace, State, ruleOf, start}
+use Rattle.meaning.specs.Rounds.{rounds}
+use Rattle.meaning.specs.Run.{Condition, conditions, find, after}
+use Rattle.meaning.specs.Run.{Reached, stays, onward, reach, outcomeOf, run}
+use Rattle.meaning.specs.Run.Condition.{positive, negative}
+use Rattle.meaning.specs.Published.{Next}
+use Rattle.sets.proofs.Laws.{is-false, fails, by-test, listed-is}
+use Rattle.meaning.proofs.Reaching.{after-is, unmetIn}
+
+-- ---- the steps, from one of their states on
+
+-- i steps more fire before, from states with n rounds
+unfoldable pub ahead : ℕ → ℕ → Reached → Reached
+ahead i n r = record { fired = i + r .fired; earlier = n + r .earlier; state = r .state; stop = r .stop }
+
+-- At the start nothing is ahead.
+pub ahead-none : (r : Reached) → r ≡ ahead 0 0 r
+unfolding ahead
+ahead-none r = rw (zero-add (r .fired), zero-add (r .earlier))
+
+-- One step more after those ahead is one more ahead.
+ahead-onward : (i n k : ℕ) (r : Reached) → ahead i n (onward k r) ≡ ahead (i + 1) (n + k) r
+unfolding ahead onward
+ahead-onward i n k r = rw (add-assoc n k (r .earlier), add-one i, suc-add i (r .fired), add-suc i (r .fired))
+
+-- One step more before those ahead is one more ahead.
+pub onward-ahead : (i n k : ℕ) (r : Reached) → onward k (ahead i n r) ≡ ahead (suc i) (k + n) r
+unfolding ahead onward
+onward-ahead i n k r = rw (add-assoc k n (r .earlier), suc-add i (r .fired))
+
+-- Where no step fires, those ahead are all.
+ahead-stays : (i n : ℕ) (S : State) (c : Option Condition)
+    → ahead i n (stays S c) ≡ record { fired = i; earlier = n; state = S; stop = c }
+unfolding ahead stays
+ahead-stays i n S c = rw (add-zero i, add-zero n)
+
+module _ (m : Model) where
+  -- A rule with no condition unmet fires.
+  pub reach-fires : (S : State) (k : ℕ) (ks : List ℕ) → unmetIn m S k ≡ none
+      → reach m S (k ∷ ks) ≡ onward (rounds (m .clauses) (S .facts)) (reach m (after (ruleOf m k) S) ks)
+  unfolding reach
+  reach-fires S k ks e = rw (e, reach)
+
+  module _ (S : State) (ks : List ℕ) (i n : ℕ) where
+    -- Where all conditions of step i are met it fires.
+    pub step-fires : i < length ks → unmetIn m S (getD ks i 0) ≡ none
+        → ahead i n (reach m S (drop i ks))
+        ≡ ahead (i + 1) (n + rounds (m .clauses) (S .facts))
+        (reach m (after (ruleOf m (getD ks i 0)) S) (drop (i + 1) ks))
+    step-fires h e =
+        rw (drop-cons ks i 0 h, reach-fires S (getD ks i 0) (drop (suc i) ks) e, ahead-onward i n, add-one i)
+
+    -- A condition that is unmet stops the run at step i.
+    pub step-stops : i < length ks → {c : Condition} → unmetIn m S (getD ks i 0) ≡ some c
+        → ahead i n (reach m S (drop i ks)) ≡ record { fired = i; earlier = n; state = S; stop = some c }
+    unfolding reach
+    step-stops h {c} e = rw (drop-cons ks i 0 h, e, reach) (ahead-stays i n S (some c))
+
+    -- After the last step the run goes no further.
+    pub steps-end : length ks ≤ i
+        → ahead i n (reach m S (drop i ks)) ≡ record { fired = i; earlier = n; state = S; stop = none }
+    unfolding reach
+    steps-end h = rw (drop-of-length-le ks h) (ahead-stays i n S none)
+
+-- ---- states below F
+
+-- no fact of F or more is in the set
+unfoldable pub Below : ℕ → Facts → Type 0
+Below F X = (f : ℕ) → F ≤ f → X f ≡ false
+
+-- The set of a list of facts below F is below F.
+pub listed-below : (F : ℕ) (xs : List ℕ) → ((f : ℕ) → f ∈ xs → f < F) → Below F (listed xs)
+unfolding Below
+listed-below F xs h f l = is-false (λ i. omega (arith, h f (listed-is xs f .0 i)))
+
+-- A rule that adds facts below F leaves a state below F.
+pub after-below : (F : ℕ) (r : Rule) (S : State) → ((f : ℕ) → f ∈ r .A → f < F)
+    → Below F (S .facts) → Below F (after r S .facts)
+unfolding Below Next
+after-below F r S h s f l = is-false (λ t. elim (after-is r S f .0 t) [
+  | inl k ↦ fails (s f l) (k .0)
+  | inr m ↦ omega (arith, h f m)
+])
+
+-- The last state that is reached from one below F is below F, if all rules add facts below F.
+pub reach-below : (m : Model) (F : ℕ) → ((k f : ℕ) → f ∈ ruleOf m k .A → f < F)
+    → (S : State) (ks : List ℕ) → Below F (S .facts) → Below F (reach m S ks .state .facts)
+unfolding reach stays onward
+reach-below m F h S [] s = s
+reach-below m F h S (k ∷ ks) s =
+    go (unmetIn m S k) refl (reach-below m F h (after (ruleOf m k) S) ks (after-below F (ruleOf m k) S (h k) s))
+  where
+    go : (u : Option Condition) → unmetIn m S k ≡ u → Below F (reach m (after (ruleOf m k) S) ks .state .facts)
+        → Below F (reach m S (k ∷ ks) .state .facts)
+    go none e b = rw (e, reach) b
+    go (some c) e b = rw (e, reach) s
+
+-- The last state of a run is below F, if the initial facts are too.
+pub run-below : (m : Model) (t : Trace) → ((f : ℕ) → f ∈ m .initial → f < m .F)
+    → ((k f : ℕ) → f ∈ ruleOf m k .A → f < m .F) → Below (m .F) (run m t .state .facts)
+unfolding run outcomeOf start
+run-below m t i h = reach-below m (m .F) h (start m) (t .steps) (listed-below (m .F) (m .initial) i)
+
+-- Counting a set below F further than F counts nothing more.
+pub size-below : (X : Facts) (F n : ℕ) → F ≤ n → Below F X → size X n ≡ size X F
+unfolding Below size
+size-below X F zero h b = ap (size X) {x = 0} {y = F} (omega arith)
+size-below X F (suc n) h b = elim (eq-or-lt-of-le h) [
+  | inl e ↦ ap (size X) (sym e)
+  | inr l ↦ rw (b n (omega arith)) (zero-add (size X n) ∙ size-below X F n (omega arith) b)
+]
+
+-- ---- conditions by their index
+
+module _ {ℓ} {A : Type ℓ} (p : A → Bool) (xs : List A) (i : ℕ) (d : A) where
+  -- The first entry, from i on, that passes is entry i if that passes.
+  pub find-here : i < length xs → p (getD xs i d) ≡ true → find p (drop i xs) ≡ some (getD xs i d)
+  unfolding find
+  find-here h e = rw (drop-cons xs i d h, e, find)
+
+  -- If it fails, it is the first one from the next on.
+  pub find-later : i < length xs → p (getD xs i d) ≡ false → find p (drop i xs) ≡ find p (drop (i + 1) xs)
+  unfolding find
+  find-later h e = rw (drop-cons xs i d h, add-one i, e, find)
+
+-- After the last entry there is none.
+pub find-end {ℓ} : {A : Type ℓ} (p : A → Bool) (xs : List A) (i : ℕ) → length xs ≤ i → find p (drop i xs) ≡ none
+unfolding find
+find-end p xs i h = rw (drop-of-length-le xs h)
+
+-- Two tests that agree on all entries find the same.
+pub find-same {ℓ} : {A : Type ℓ} (p q : A → Bool) (xs : List A) → ((x : A) → x ∈ xs → p x ≡ q x)
+    → find p xs ≡ find q xs
+unfolding find
+find-same p q [] h = refl
+find-same p q (x ∷ xs) h =
+    by-test (q x) (λ e. rw (h x (List·Memᴰ·head refl), e, find))
+    (λ e. rw (h x (List·Memᴰ·head refl), e, find) (find-same p q xs (λ y m. h y (List·Memᴰ·tail m))))
+
+-- An image stands where its entry does.
+image-at : {B : Type 0} (g : ℕ → B) (xs : List ℕ) (i : ℕ) (d : B) → i < length xs
+    → getD (map g xs) i d ≡ g (getD xs i 0)
+image-at g [] i d h = absurd (omega arith)
+image-at g (x ∷ xs) zero d h = refl
+image-at g (x ∷ xs) (suc i) d h = image-at g xs i d (omega arith)
+
+module _ (P N : List ℕ) where
+  -- There are as many conditions as entries of P and N.
+  pub length-conditions : length (conditions P N) ≡ length P + length N
+  unfolding conditions
+  length-conditions = simp (length-append, length-map)
+
+  -- The first ones are those of P.
+  pub positive-at : (i : ℕ) (d : Condition) → i < length P → getD (conditions P N) i d ≡ positive (getD P i 0)
+  unfolding conditions
+  positive-at i d h =
+      List·getD-append (map positive P) (map negative N) d i (rw (length-map P positive) h) ∙ image-at positive P i d h
+
+  -- After them come those of N.
+  pub negative-at : (i : ℕ) (d : Condition) → length P ≤ i → i < length P + length N
+      → getD (conditions P N) i d ≡ negative (getD N (i - length P) 0)
+  unfolding conditions
+  negative-at i d h l =
+      let e : length (map positive P) + (i - length P) ≡ i = rw (length-map P positive) (add-sub-of-le h) in
+      ap (λ j. getD (conditions P N) j d) (sym e) ∙ getD-append-add (map positive P) (map negative N) (i - length P) d
+      ∙ image-at negative N (i - length P) d (omega arith)

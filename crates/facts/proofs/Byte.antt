@@ -1,176 +1,144 @@
--- The bits of one byte: what the masks, the shift and the count of src/ say of them, and that they determine the byte.
+-- The bits of one byte: what the masks, the shift and the count of src/ say of them, and the byte that has given bits.
+-- There are 256 bytes of 8 bits each, so most of this is computed at every one.
 use Prim.Native.Nat.{ℕ, zero, suc, _+_, _-_, _*_, _/_, _%_, _^_, _≤_, _<_, zero-le}
-use mathlib.Core.Path.{_≡_, refl, sym, ap, ap₂, _∙_, subst}
-use mathlib.Core.Bool.{Bool, true, false, not, _&&_, _||_, Bool·beq}
-use mathlib.Core.Logic.{⊎-elim}
-use native.Mathlib.Nat.{add-zero, add-comm, zero-mul, one-mul, div-one, div-add-mod', div-eq-of-lt, div-le-self, zero-div, add-sub-of-le, pow-suc, le-add-right, lt-of-le-of-lt, lt-of-not-le, eq-or-lt-of-le, le-of-suc-le-suc, not-suc-le-zero}
+use mathlib.Core.Path.{_≡_, refl, sym, ap, ap₂, _∙_}
+use mathlib.Core.Bool.{Bool, true, false, not, _&&_, _||_, Bool·beq, cond}
+use mathlib.Core.Logic.{inl, inr, ⊎-elim}
+use native.Mathlib.Nat.{zero-div, add-sub-of-le, pow-suc, eq-or-lt-of-le, le-of-suc-le-suc, not-suc-le-zero}
 use native.Mathlib.Numerals.{one-add}
 use native.Mathlib.Omega.{arith}
-use lib.Dec.{T, eqb}
-use lib.Arith.{lt-one}
-use lib.Pow.{pow-pos, shr-shr, high-ones}
-use lib.Bits.{bitAnd, bitOr, and-shr, and-mod, or-shr, or-mod, and-high}
-use lib.Count.{ones, ones-step}
-use borrow.Author.Tests.{eqb-true, eqb-false, ne-eqb}
-use Rattle.sets.specs.Sets.{size}
-use Rattle.facts.proofs.Size.{one, size-add, size-same}
+use lib.Dec.{T, eqb, leb, ltb, eqb→eq, leb→le, ltb→lt, lit<}
+use lib.Pow.{shr-shr}
+use lib.Bits.{bitAnd, bitOr}
+use lib.Count.{ones, onesIn}
+use borrow.Author.Tests.{eq-eqb, ne-eqb}
+use Rattle.sets.specs.Sets.{Facts, size, first}
+use Rattle.sets.proofs.Laws.{passes, both, either, first-hit}
+use Rattle.sets.proofs.Size.{one, one-le}
 
 -- whether b has the bit of value 2^k
-abbrev pub on : ℕ → ℕ → Bool
+abbrev pub on : ℕ → Facts
 on b k = eqb (b / 2 ^ k % 2) 1
 
--- a shift moves each bit down
-pub on-shift : (b j k : ℕ) → on (b / 2 ^ j) k ≡ on b (j + k)
+-- A shift moves each bit down.
+on-shift : (b j k : ℕ) → on (b / 2 ^ j) k ≡ on b (j + k)
 on-shift b j k = ap (λ (x : ℕ). eqb (x % 2) 1) (shr-shr b j k)
 
--- what a shift by j leaves nothing of has no bit of value 2^j or more
+-- What a shift by j leaves nothing of has no bit of value 2^j or more.
 pub on-none : (b j k : ℕ) → b / 2 ^ j ≡ 0 → j ≤ k → on b k ≡ false
 on-none b j k e h =
     ap (on b) (sym (add-sub-of-le h)) ∙ sym (on-shift b j (k - j))
     ∙ ap (λ (x : ℕ). eqb (x % 2) 1) (ap (λ (x : ℕ). x / 2 ^ (k - j)) e ∙ zero-div (2 ^ (k - j)))
 
--- the number 0 has no bit
-pub on-zero : (k : ℕ) → on 0 k ≡ false
-on-zero k = on-none 0 0 k refl zero-le
+-- ---- a number by its bits
 
--- ---- rules of small numbers, by computing every case
+-- the number whose bits below n are the members of X, and that has no others
+unfoldable pub packed : ℕ → Facts → ℕ
+packed zero X = 0
+packed (suc n) X = packed n (λ k. X (suc k)) * 2 + one (X 0)
+
+-- It is below 2^n.
+pub packed-lt : (n : ℕ) (X : Facts) → packed n X < 2 ^ n
+unfolding packed
+packed-lt zero X = lit< tt
+packed-lt (suc n) X = omega (arith, pow-suc 2 n, one-le (X 0), packed-lt n (λ k. X (suc k)))
+
+-- It has the bits that X says.
+pub on-packed : (n : ℕ) (X : Facts) (k : ℕ) → k < n → on (packed n X) k ≡ X k
+unfolding packed
+on-packed zero X k h = absurd (not-suc-le-zero h)
+on-packed (suc n) X zero h = lowest (packed n (λ k. X (suc k))) (X 0)
+  where
+    lowest : (p : ℕ) (t : Bool) → on (p * 2 + one t) 0 ≡ t
+    lowest p true = eq-eqb ((p * 2 + 1) / 1 % 2) 1 (omega arith)
+    lowest p false = ne-eqb ((p * 2 + 0) / 1 % 2) 1 (λ e. omega arith)
+on-packed (suc n) X (suc k) h =
+    ap (on (packed (suc n) X)) (sym (one-add k)) ∙ sym (on-shift (packed (suc n) X) 1 k)
+    ∙ ap (λ (b : ℕ). on b k) (omega (arith, one-le (X 0)))
+    ∙ on-packed n (λ k. X (suc k)) k (le-of-suc-le-suc h)
+
+-- Sets that agree below n give one number.
+packed-same : (n : ℕ) (X Y : Facts) → ((k : ℕ) → k < n → X k ≡ Y k) → packed n X ≡ packed n Y
+unfolding packed
+packed-same zero X Y e = refl
+packed-same (suc n) X Y e =
+    ap₂ (λ (p : ℕ) (t : Bool). p * 2 + one t)
+    (packed-same n (λ k. X (suc k)) (λ k. Y (suc k)) (λ k h. e (suc k) (omega arith))) (e 0 (omega arith))
+
+-- ---- what holds of every byte and every bit of it, by computing
 
 -- the test passes at each number below n
 abbrev all : ℕ → (ℕ → Bool) → Bool
 all zero p = true
 all (suc n) p = p n && all n p
 
--- both parts of a test pass
-both : (a b : Bool) → T (a && b) → T a × T b
-both true b t = (tt, t)
-both false b t = absurd t
-
--- so the test passes at any number below n
+-- So it passes at any of them.
 all-at : (n : ℕ) (p : ℕ → Bool) → T (all n p) → (k : ℕ) → k < n → T (p k)
 all-at zero p t k h = absurd (not-suc-le-zero h)
 all-at (suc n) p t k h =
-    ⊎-elim (λ e. subst (λ (i : ℕ). T (p i)) (sym e) (both (p n) (all n p) t .0))
-    (λ l. all-at n p (both (p n) (all n p) t .1) k l) (eq-or-lt-of-le (le-of-suc-le-suc h))
+    let (here, below) = both (p n) (all n p) .0 t in
+    ⊎-elim (λ e. rw e here) (all-at n p below k) (eq-or-lt-of-le (le-of-suc-le-suc h))
 
--- a comparison of two tests, read as an equation
-beq-eq : (a b : Bool) → T (Bool·beq a b) → a ≡ b
-beq-eq true true t = refl
-beq-eq true false t = absurd t
-beq-eq false true t = absurd t
-beq-eq false false t = refl
+-- A test that passes at every bit of every byte passes at one of a given byte.
+table : (p : ℕ → ℕ → Bool) → T (all 256 (λ b. all 8 (p b))) → (b k : ℕ) → b < 256 → k < 8 → T (p b k)
+table p t b k hb hk = all-at 8 (p b) (all-at 256 (λ c. all 8 (p c)) t b hb) k hk
 
--- two tests that agree at every pair of numbers below n
-table : (n : ℕ) (p q : ℕ → ℕ → Bool) → T (all n (λ j. all n (λ k. Bool·beq (p j k) (q j k))))
-    → (j k : ℕ) → j < n → k < n → p j k ≡ q j k
-table n p q t j k hj hk =
-    beq-eq (p j k) (q j k)
-    (all-at n (λ i. Bool·beq (p j i) (q j i)) (all-at n (λ i. all n (λ k. Bool·beq (p i k) (q i k))) t j hj) k hk)
+-- A byte is the number of its bits.
+byte-is : (b : ℕ) → b < 256 → packed 8 (on b) ≡ b
+unfolding packed
+byte-is b h = eqb→eq _ b (all-at 256 (λ c. eqb (packed 8 (on c)) c) tt b h)
 
--- what holds of 0 and of 1 holds of a digit
-digit : (P : ℕ → Type 0) → P 0 → P 1 → (n : ℕ) → P (n % 2)
-digit P p q n = go (n % 2) (omega arith)
+-- Bytes with the same bits are equal.
+pub same-bits : (a b : ℕ) → a < 256 → b < 256 → ((k : ℕ) → k < 8 → on a k ≡ on b k) → a ≡ b
+same-bits a b ha hb e = sym (byte-is a ha) ∙ packed-same 8 (on a) (on b) e ∙ byte-is b hb
+
+-- A byte has as many bits as ones.
+pub size-on : (b : ℕ) → b < 256 → size (on b) 8 ≡ ones b
+unfolding size ones onesIn
+size-on b h = eqb→eq _ _ (all-at 256 (λ c. eqb (size (on c) 8) (ones c)) tt b h)
+
+-- `b & (1 << k)` is not 0 exactly if b has the bit.
+pub on-test : (b k : ℕ) → b < 256 → k < 8 → not (eqb (bitAnd b (2 ^ k)) 0) ≡ on b k
+on-test b k hb hk = same _ _ (table (λ c j. Bool·beq (not (eqb (bitAnd c (2 ^ j)) 0)) (on c j)) tt b k hb hk)
   where
-    go : (d : ℕ) → d < 2 → P d
-    go zero h = p
-    go (suc zero) h = q
-    go (suc (suc d)) h = absurd (omega arith)
+    same : (x y : Bool) → T (Bool·beq x y) → x ≡ y
+    same true true t = refl
+    same true false t = absurd t
+    same false true t = absurd t
+    same false false t = refl
 
--- ---- masks
+-- the byte b with its bit j set, `b | (1 << j)`, or cleared, `b & !(1 << j)`
+abbrev pub changed : Bool → ℕ → ℕ → ℕ
+changed true b j = bitOr b (2 ^ j)
+changed false b j = bitAnd b (255 - 2 ^ j)
 
--- an operation that goes digit by digit, and is u on two digits, is u on each bit
-on-op : (op : ℕ → ℕ → ℕ) (u : Bool → Bool → Bool)
-    → ((a b k : ℕ) → op a b / 2 ^ k ≡ op (a / 2 ^ k) (b / 2 ^ k))
-    → ((a b k : ℕ) → op a b % 2 ^ k ≡ op (a % 2 ^ k) (b % 2 ^ k))
-    → T (all 2 (λ x. all 2 (λ y. Bool·beq (eqb (op x y) 1) (u (eqb x 1) (eqb y 1)))))
-    → (a b k : ℕ) → on (op a b) k ≡ u (on a k) (on b k)
-on-op op u shifted low t a b k =
-    ap (λ (x : ℕ). eqb x 1) (ap (λ (x : ℕ). x % 2) (shifted a b k) ∙ low (a / 2 ^ k) (b / 2 ^ k) 1)
-    ∙ table 2 (λ x y. eqb (op x y) 1) (λ x y. u (eqb x 1) (eqb y 1)) t (a / 2 ^ k % 2) (b / 2 ^ k % 2) (omega arith)
-    (omega arith)
-
--- a bit of `a | b` is set in the one or the other
-pub on-or : (a b k : ℕ) → on (bitOr a b) k ≡ (on a k || on b k)
-on-or = on-op bitOr _||_ or-shr or-mod tt
-
--- a bit of `a & b` is set in both
-pub on-and : (a b k : ℕ) → on (bitAnd a b) k ≡ (on a k && on b k)
-on-and = on-op bitAnd _&&_ and-shr and-mod tt
-
--- `b & (1 << k)` is not 0 exactly if b has the bit
-pub on-test : (b k : ℕ) → not (eqb (bitAnd b (2 ^ k)) 0) ≡ on b k
-on-test b k =
-    ap (λ (x : ℕ). not (eqb x 0)) (ap (bitAnd b) (sym (high-ones 1 k ∙ one-mul (2 ^ k))) ∙ and-high b 1 k)
-    ∙ digit (λ d. not (eqb (d * 2 ^ k) 0) ≡ eqb d 1) (ap (λ (x : ℕ). not (eqb x 0)) (zero-mul (2 ^ k)))
-    (ap not (ne-eqb (1 * 2 ^ k) 0 (λ e. omega (arith, pow-pos k)))) (b / 2 ^ k)
-
--- `b | (1 << j)` has the bit j besides
-pub on-set : (b j k : ℕ) → j < 8 → k < 8 → on (bitOr b (2 ^ j)) k ≡ (on b k || eqb k j)
-on-set b j k hj hk =
-    on-or b (2 ^ j) k ∙ ap (λ (t : Bool). on b k || t) (table 8 (λ j k. on (2 ^ j) k) (λ j k. eqb k j) tt j k hj hk)
-
--- `b & !(1 << j)` has every bit but j
-pub on-unset : (b j k : ℕ) → j < 8 → k < 8 → on (bitAnd b (255 - 2 ^ j)) k ≡ (on b k && not (eqb k j))
-on-unset b j k hj hk =
-    on-and b (255 - 2 ^ j) k
-    ∙ ap (λ (t : Bool). on b k && t) (table 8 (λ j k. on (255 - 2 ^ j) k) (λ j k. not (eqb k j)) tt j k hj hk)
-
--- ---- the lowest bit, and the rest
-
--- one digit less
-halved : {b : ℕ} (n : ℕ) → b < 2 ^ suc n → b / 2 < 2 ^ n
-halved n h = omega (arith, pow-suc 2 n)
-
--- the lowest bit is the lowest digit
-lowest : (b : ℕ) → on b 0 ≡ eqb (b % 2) 1
-lowest b = ap (λ (x : ℕ). eqb (x % 2) 1) (div-one b)
-
--- digits are equal where their tests are
-same-digit : (a b : ℕ) → eqb (a % 2) 1 ≡ eqb (b % 2) 1 → a % 2 ≡ b % 2
-same-digit a b e = digit (λ x. eqb x 1 ≡ eqb (b % 2) 1 → x ≡ b % 2)
-    (λ p. omega (arith, eqb-false (b % 2) 1 (sym p))) (λ p. sym (eqb-true (b % 2) 1 (sym p))) a e
-
--- numbers below 2^n with the same bits are equal
-pub same-bits : (n a b : ℕ) → a < 2 ^ n → b < 2 ^ n → ((k : ℕ) → k < n → on a k ≡ on b k) → a ≡ b
-same-bits zero a b ha hb e = lt-one ha ∙ sym (lt-one hb)
-same-bits (suc n) a b ha hb e =
-    sym (div-add-mod' a 2)
-    ∙ ap₂ (λ (q r : ℕ). q * 2 + r)
-    (same-bits n (a / 2) (b / 2) (halved n ha) (halved n hb)
-    (λ k h. on-shift a 1 k ∙ e (1 + k) (omega arith) ∙ sym (on-shift b 1 k)))
-    (same-digit a b (sym (lowest a) ∙ e 0 (omega arith) ∙ lowest b))
-    ∙ div-add-mod' b 2
-
--- a number that is not 0 has a bit
-pub some-bit : (n b : ℕ) → b < 2 ^ n → 0 < b → (k : ℕ) × T (on b k)
-some-bit zero b h p = absurd (omega arith)
-some-bit (suc n) b h p = go (on b 0) refl (some-bit n (b / 2) (halved n h))
+-- It has that bit or not, and every other one as before.
+pub on-changed : (to : Bool) (b j k : ℕ) → b < 256 → j < 8 → k < 8 → on (changed to b j) k ≡ cond (eqb k j) to (on b k)
+unfolding packed
+on-changed to b j k hb hj hk =
+    ap (λ (c : ℕ). on c k) (eqb→eq _ _ (table (is to) (computed to) b j hb hj)) ∙ on-packed 8 (bits to b j) k hk
   where
-    go : (t : Bool) → on b 0 ≡ t → (0 < b / 2 → (k : ℕ) × T (on (b / 2) k)) → (k : ℕ) × T (on b k)
-    go true e above = (0, subst T (sym e) tt)
-    go false e above =
-        let s = above (omega (arith, eqb-false (b % 2) 1 (sym (lowest b) ∙ e))) in
-        (1 + s .0, subst T (on-shift b 1 (s .0)) (s .1))
+    bits : Bool → ℕ → ℕ → Facts
+    bits to b j k = cond (eqb k j) to (on b k)
 
--- a byte of which a shift by j leaves something has a bit of value 2^j or more
-pub on-some : (b j : ℕ) → b < 256 → 0 < b / 2 ^ j → (k : ℕ) × (j ≤ k) × (k < 8) × T (on b k)
-on-some b j h p = (j + s .0, le-add-right j (s .0), inside, bit)
+    is : Bool → ℕ → ℕ → Bool
+    is to b j = eqb (changed to b j) (packed 8 (bits to b j))
+
+    computed : (to : Bool) → T (all 256 (λ b. all 8 (is to b)))
+    computed true = tt
+    computed false = tt
+
+-- A byte of which a shift by j leaves something has a bit of value 2^j or more: the first one will do.
+pub on-some : (b j : ℕ) → b < 256 → j < 8 → 0 < b / 2 ^ j → (k : ℕ) × (j ≤ k) × (k < 8) × T (on b k)
+unfolding first
+on-some b j hb hj p =
+    let k : ℕ = first (from b j) 8 in
+    let left = table (λ c i. eqb (c / 2 ^ i) 0 || ltb (first (from c i) 8) 8) tt b j hb hj in
+    let low : k < 8 =
+    ⊎-elim (λ z. absurd (omega (arith, eqb→eq (b / 2 ^ j) 0 z))) (ltb→lt k 8)
+    (either (eqb (b / 2 ^ j) 0) (ltb k 8) .0 left) in
+    let (after, bit) = both (leb j k) (on b k) .0 (passes (first-hit (from b j) 8 low)) in
+    (k, leb→le j k after, low, bit)
   where
-    s : (k : ℕ) × T (on (b / 2 ^ j) k)
-    s = some-bit 8 (b / 2 ^ j) (lt-of-le-of-lt (div-le-self b (2 ^ j)) h) p
-
-    bit : T (on b (j + s .0))
-    bit = subst T (on-shift b j (s .0)) (s .1)
-
-    inside : j + s .0 < 8
-    inside = lt-of-not-le (λ l. subst T (on-none b 8 (j + s .0) (div-eq-of-lt h) l) bit)
-
--- the bits of a number below 2^n are as many as its ones
-pub size-on : (n b : ℕ) → b < 2 ^ n → size (on b) n ≡ ones b
-unfolding size ones
-size-on zero b h = sym (ap ones (lt-one h))
-size-on (suc n) b h =
-    ap (size (on b)) (sym (one-add n)) ∙ size-add (on b) 1 n
-    ∙ ap₂ (λ (x y : ℕ). x + y)
-    (size-same (λ k. on b (1 + k)) (on (b / 2)) n (λ k _. sym (on-shift b 1 k)) ∙ size-on n (b / 2) (halved n h))
-    (add-zero (one (on b 0)) ∙ ap one (lowest b) ∙ digit (λ d. one (eqb d 1) ≡ d) refl refl b)
-    ∙ add-comm (ones (b / 2)) (b % 2) ∙ sym (ones-step b)
+    from : ℕ → ℕ → Facts
+    from b j k = leb j k && on b k

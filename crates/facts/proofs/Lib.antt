@@ -1,4 +1,3 @@
--- What proofs here and in later crates cite: `Byte` on the bits of a byte, `Size` on counts, `Laws` on sets of facts.
+-- What proofs here and in later crates cite: `Byte` on the bits of a byte, `Laws` on sets in bytes.
 pub mod Byte
-pub mod Size
 pub mod Laws

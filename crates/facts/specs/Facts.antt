@@ -1,4 +1,5 @@
--- A set of facts in lent bytes (document 01, "Buffers"): membership, and what each operation does to it.
+-- A set of numbers in lent bytes (document 01, "Buffers"): membership, and what each operation does to it. A set lies
+-- in the first `width` bytes of its buffer.
 use Prim.Native.Nat.{ℕ, _/_, _%_, _^_, _≤_}
 use mathlib.Core.Path.{_≡_}
 use mathlib.Core.Bool.{Bool, true, false, not, _&&_, _||_}
@@ -11,36 +12,40 @@ use Rattle.sets.specs.Sets.{Facts}
 unfoldable pub bit : List ℕ → Facts
 bit bytes f = eqb (getD bytes (f / 8) 0 / 2 ^ (f % 8) % 2) 1
 
--- the set that a buffer holds: "the first 512 bytes"
-unfoldable pub members : List ℕ → Facts
+-- the set that a buffer holds in its first `width` bytes
+unfoldable pub within : ℕ → List ℕ → Facts
 unfolding bit
-members bytes = bit (take 512 bytes)
+within width bytes = bit (take width bytes)
 
--- what an operation that changes the set leaves alone: the buffer's length and every byte after the first 512
-pub record Kept (before after : List ℕ) : Type 0 where
+-- the set of a state: "the first 512 bytes hold the last state reached"
+abbrev pub members : List ℕ → Facts
+members = within 512
+
+-- "Anything beyond is unchanged": the buffer's length and every byte after the first `width`
+pub record Kept (width : ℕ) (before after : List ℕ) : Type 0 where
   pub as-long : length after ≡ length before
-  pub beyond : drop 512 after ≡ drop 512 before
+  pub beyond : drop width after ≡ drop width before
 
--- whether the buffer has the fact's byte, among its first 512
-unfoldable pub room : List ℕ → Facts
-room bytes f = ltb (f / 8) (length (take 512 bytes))
+-- whether the buffer has the number's byte, "byte f/8", among its first `width`
+unfoldable pub room : ℕ → List ℕ → Facts
+room width bytes n = ltb (n / 8) (length (take width bytes))
 
--- after `add`: the fact is in the set where the buffer has its byte, and of every other fact nothing changed
-pub record Added (before : List ℕ) (f : ℕ) (after : List ℕ) : Type 0 where
-  pub set : (g : ℕ) → members after g ≡ (members before g || (eqb g f && room before f))
-  pub kept : Kept before after
+-- after `add`: the number is in the set where the buffer has its byte, and of every other number nothing changed
+pub record Added (width : ℕ) (before : List ℕ) (n : ℕ) (after : List ℕ) : Type 0 where
+  pub set : (g : ℕ) → within width after g ≡ (within width before g || (eqb g n && room width before n))
+  pub kept : Kept width before after
 
--- after `remove`: the fact is not in the set, and of every other fact nothing changed
-pub record Removed (before : List ℕ) (f : ℕ) (after : List ℕ) : Type 0 where
-  pub set : (g : ℕ) → members after g ≡ (members before g && not (eqb g f))
-  pub kept : Kept before after
+-- after `remove`: the number is not in the set, and of every other number nothing changed
+pub record Removed (width : ℕ) (before : List ℕ) (n : ℕ) (after : List ℕ) : Type 0 where
+  pub set : (g : ℕ) → within width after g ≡ (within width before g && not (eqb g n))
+  pub kept : Kept width before after
 
--- after `clear`: no fact is in the set
-pub record Cleared (before after : List ℕ) : Type 0 where
-  pub set : (g : ℕ) → members after g ≡ false
-  pub kept : Kept before after
+-- after `clear`: no number is in the set
+pub record Cleared (width : ℕ) (before after : List ℕ) : Type 0 where
+  pub set : (g : ℕ) → within width after g ≡ false
+  pub kept : Kept width before after
 
--- "a bit set from F on in its first 512 bytes": the answer is true exactly if the set has a fact of F or more
-pub record AnyFrom (bytes : List ℕ) (F : ℕ) (answer : Bool) : Type 0 where
-  pub none : answer ≡ false → (g : ℕ) → F ≤ g → members bytes g ≡ false
-  pub some : answer ≡ true → (g : ℕ) × (F ≤ g) × T (members bytes g)
+-- "a bit set from F on in its first 512 bytes": the answer is true exactly if the set has a number of `from` or more
+pub record AnyFrom (width : ℕ) (bytes : List ℕ) (from : ℕ) (answer : Bool) : Type 0 where
+  pub none : answer ≡ false → (g : ℕ) → from ≤ g → within width bytes g ≡ false
+  pub some : answer ≡ true → (g : ℕ) × (from ≤ g) × T (within width bytes g)

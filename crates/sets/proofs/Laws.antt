@@ -5,8 +5,9 @@ use native.Mathlib.Omega.{arith}
 use mathlib.Core.Path.{_≡_, refl, sym, _∙_}
 use mathlib.Core.Logic.{_↔_, _⊎_, inl, inr}
 use mathlib.Core.Bool.{Bool, true, false, true≢false, not, _&&_, _||_}
-use mathlib.Core.List.{List, [], _∷_, List·Memᴰ·head, List·Memᴰ·tail, Memᴰ·cast}
-use lib.Dec.{T, eqb, eqb→eq, eqb-refl}
+use mathlib.Core.List.{List, [], _∷_, map, List·Memᴰ·head, List·Memᴰ·tail, Memᴰ·cast}
+use lib.Dec.{T, eqb, ltb, eqb→eq, eqb-refl}
+use borrow.Author.Tests.{ltb-true, ltb-false}
 use Rattle.sets.specs.Sets.{every, any, listed, first, _∈_}
 
 -- A test that passes is true.
@@ -31,6 +32,10 @@ fails e t = rw e at t
 pub by-test {ℓ} : {C : Type ℓ} (b : Bool) → (b ≡ true → C) → (b ≡ false → C) → C
 by-test true t f = t refl
 by-test false t f = f refl
+
+-- A number is below another, or it is not.
+pub below-or-from : (n m : ℕ) → (n < m) ⊎ (m ≤ n)
+below-or-from n m = by-test (ltb n m) (λ e. inl (ltb-true n m e)) (λ e. inr (ltb-false n m e))
 
 -- Two tests that pass together are equal.
 pub same-test : {a b : Bool} → (T a → T b) → (T b → T a) → a ≡ b

@@ -1,43 +1,25 @@
--- `facts::add` meets its contract: the mask sets the fact's bit, and a fact without a byte is added by doing nothing.
+-- `facts::add` meets its contract: the mask sets the number's bit, and a number without a byte cannot be added.
+use Prim.Native.Nat.{_/_}
 use native.Mathlib.Omega.{arith}
 use borrow.Author.Needs.{needs}
 use Rattle.facts.proofs.Laws.{added-set, added-missing}
 use Rattle.facts.proofs.add.Statement.{statement}
 use Rattle.facts.proofs.add.Tie as tie
 
-held-requires : tie.Need-held-requires
-held-requires c κs = search needs
-
-slice-read-state : tie.Need-slice-read-state
-slice-read-state c = search needs
-
-mask-requires : tie.Need-mask-requires
-mask-requires c κs = search needs
-
-slice-write-state : tie.Need-slice-write-state
-slice-write-state c = search needs
-
-same-length : tie.Need-same-length
-same-length c = search needs
-
 returns : tie.Need-returns
 returns c =
     let args = c .before .before .before .before .before .args in
-    rw (c .mask .ensures) (added-set (args .state .now) (args .f) (omega arith))
+    rw (c .mask .ensures)
+    (added-set (args .width) (args .set .now) (args .n) (omega arith)
+    (omega (arith, c .before .slice-known2 .given (args .n / 8))))
 
 returns-2 : tie.Need-returns-2
 returns-2 c =
     let args = c .before .before .before .args in
-    added-missing (args .state .now) (args .f) (omega arith)
+    added-missing (args .width) (args .set .now) (args .n) (omega arith)
 
 pub add-spec : {M : Type 1} → statement M
 add-spec =
     tie.close
-    (tie.spec
-    held-requires
-    slice-read-state
-    mask-requires
-    slice-write-state
-    same-length
-    returns
-    returns-2)
+    (tie.spec (λ c κs. search needs) (λ c. search needs) (λ c κs. search needs) (λ c. search needs) (λ c. search needs)
+    returns returns-2)

@@ -1,5 +1,5 @@
--- `facts::clear` meets its contract. The loop's invariant: each byte passed is 0, and what `clear` must leave alone is as
--- it was.
+-- `facts::clear` meets its contract. The loop's invariant: each byte passed is 0, and what `clear` must leave alone is
+-- as it was.
 use Prim.Native.Nat.{ℕ, _-_, _<_, _≤_}
 use mathlib.Core.Path.{_≡_, _∙_}
 use native.Mathlib.Omega.{arith}
@@ -13,35 +13,23 @@ use Rattle.facts.proofs.clear.Statement.{statement}
 use Rattle.facts.proofs.clear.Tie as tie
 
 abbrev Inv-loop : tie.InvT-loop
-Inv-loop state₀ n i₀ state i = (i ≤ n) × Kept state₀ state × ((k : ℕ) → k < i → getD state k 0 ≡ 0)
+Inv-loop set₀ width bytes i₀ set i = (i ≤ bytes) × Kept width set₀ set × ((k : ℕ) → k < i → getD set k 0 ≡ 0)
 
 abbrev μ-loop : tie.MeasureT-loop
-μ-loop state₀ n i₀ state i = n - i
-
-held-requires : tie.Need-held-requires Inv-loop μ-loop
-held-requires c κs = search needs
+μ-loop set₀ width bytes i₀ set i = bytes - i
 
 loop-holds : tie.Need-loop-holds Inv-loop μ-loop
 loop-holds c = (omega arith, kept-same _, λ k h. absurd (omega arith))
 
-slice-write-state : tie.Need-slice-write-state Inv-loop μ-loop
-slice-write-state c = omega arith
-
-add-i : tie.Need-add-i Inv-loop μ-loop
-add-i c = omega arith
-
-loop-less : tie.Need-loop-less Inv-loop μ-loop
-loop-less c = omega arith
-
 loop-again : tie.Need-loop-again Inv-loop μ-loop
 loop-again c =
-    let state = c .before .loop .state in
+    let set = c .before .loop .set in
     let i = c .before .loop .i in
     let inv = c .before .loop .inv in (
       omega arith,
-      kept-trans (inv .1) (kept-set state i _ (omega arith)),
-      below-more _ i (λ k h. getD-set-other state i k _ 0 (λ e. omega arith) ∙ inv .2 k h)
-          (getD-set-same state i _ 0 (omega arith)),
+      kept-trans (inv .1) (kept-set set i _ (omega arith)),
+      below-more _ i (λ k h. getD-set-other set i k _ 0 (λ e. omega arith) ∙ inv .2 k h)
+          (getD-set-same set i _ 0 (omega arith)),
     )
 
 same-length : tie.Need-same-length Inv-loop μ-loop
@@ -53,14 +41,6 @@ returns c = cleared-zero (c .before .loop .inv .1) (λ i h. c .before .loop .inv
 pub clear-spec : {M : Type 1} → statement M
 clear-spec =
     tie.close
-    (tie.spec
-    Inv-loop
-    μ-loop
-    held-requires
-    loop-holds
-    slice-write-state
-    add-i
-    loop-less
-    loop-again
-    same-length
-    returns)
+    (tie.spec Inv-loop μ-loop
+    (λ c κs. search needs) loop-holds (λ c. omega arith) (λ c. omega arith) (λ c. omega arith) loop-again
+    same-length returns)

@@ -1,4 +1,4 @@
--- `facts::mask` meets its contract: f % 8 is below 8, so the shift of 1 loses nothing.
+-- `facts::mask` meets its contract: n % 8 is below 8, so the shift of 1 loses nothing.
 use Prim.Native.Nat.{_%_, _^_}
 use mathlib.Core.Path.{_∙_}
 use native.Mathlib.Nat.{one-mul}
@@ -16,7 +16,7 @@ shl-result : tie.Need-shl-result
 shl-result c = search needs
 
 returns : tie.Need-returns
-returns c = shl-exact {a = 1} 1 (c .args .f % 8) 8 (lit< tt) (omega arith) ∙ one-mul (2 ^ (c .args .f % 8))
+returns c = shl-exact {a = 1} 1 (c .args .n % 8) 8 (lit< tt) (omega arith) ∙ one-mul (2 ^ (c .args .n % 8))
 
 pub mask-spec : {M : Type 1} → statement M
 mask-spec = tie.close (tie.spec cast-result shl-result returns)

@@ -1,4 +1,4 @@
--- Laws on closing called by itself: what each refusal rests on, and what a judged model has.
+-- Laws on closing called by itself: what each closeRefusal rests on, and what a judged model has.
 use Prim.Native.Nat.{ℕ, _≤_, _<_}
 use mathlib.Core.Path.{_≡_, refl, sym, ap, _∙_, subst}
 use mathlib.Core.Logic.{_⊎_, inl, inr, ⊎-elim}
@@ -11,18 +11,17 @@ use borrow.Author.Tests.{lt-ltb, le-ltb, le-leb, leb-true}
 use lib.Dec.{T, leb, ltb}
 use lib.ListN.{length}
 use Rattle.sets.specs.Sets.{Facts, first}
-use Rattle.sets.proofs.Laws.{is-true, passes, both, first-hit, first-before}
+use Rattle.sets.proofs.Laws.{is-true, passes, both, below-or-from, first-hit, first-before}
 use Rattle.meaning.specs.Model.{Clause}
-use Rattle.meaning.specs.Rounds.{rounds}
 use Rattle.facts.specs.Facts.{members, AnyFrom}
-use Rattle.facts.proofs.Laws.{below-or-from, beyond}
+use Rattle.facts.proofs.Laws.{beyond}
 use Rattle.records.specs.Records.{given, _orElse_}
 use Rattle.records.specs.declared.Fault.{Fault}
 use Rattle.sections.specs.Sections.{tooLong, wrongVersion}
-use Rattle.files.specs.Files.{section, clausesIn, factCount, modelOf, shapeFault, negatedFault, modelFault}
+use Rattle.files.specs.Files.{factCount, modelOf, shapeFault, modelFault, modelBytes}
 use Rattle.sections.proofs.Fits.{neither}
 use Rattle.files.proofs.Laws.{facts-bound, clauses-bound, clause-below}
-use Rattle.closing.specs.Closing.{Filled, Bounded, noRoom, someFrom, refusal, answer, Table, Closes, ClosesFine}
+use Rattle.closing.specs.Closing.{Bounded, ClosesUnder, noRoom, someFrom, closeRefusal, answer, Table, Closes, ClosesKnown}
 use Rattle.closing.specs.declared.Closed.{Closed}
 use Rattle.closing.proofs.Laws.{filled-unique}
 
@@ -47,11 +46,11 @@ first-at-most : (p : ℕ → Bool) (n g : ℕ) → p g ≡ true → first p n �
 first-at-most p n g e = ⊎-elim (λ h. absurd (true≢false (sym e ∙ first-before p n g h))) (λ h. h) (below-or-from g (first p n))
 
 -- what `any_from` answers is whether there is one
-pub some-from : (state : List ℕ) (F : ℕ) (r : Bool) → AnyFrom state F r → r ≡ someFrom F (members state)
+pub some-from : (state : List ℕ) (F : ℕ) (r : Bool) → AnyFrom 512 state F r → r ≡ someFrom F (members state)
 unfolding someFrom
 some-from state F true a =
     let (g, from, in-set) = a .some refl in
-    let low : g < 4096 = ⊎-elim (λ h. h) (λ h. absurd (subst T (beyond state g h) in-set)) (below-or-from g 4096) in
+    let low : g < 4096 = ⊎-elim (λ h. h) (λ h. absurd (subst T (beyond 512 state g h) in-set)) (below-or-from g 4096) in
     let passes : (leb F g && members state g) ≡ true = rw (le-leb F g from) (is-true in-set) in
     sym (lt-ltb (first (λ f. leb F f && members state f) 4096) 4096 (lt-of-le-of-lt (first-at-most (λ f. leb F f && members state f) 4096 g passes) low))
 some-from state F false a =
@@ -72,9 +71,7 @@ some-from state F false a =
 -- a model without a fault has none of 4 to 7
 pub fine-shape : (m : List ℕ) → modelFault m ≡ none → shapeFault m ≡ none
 unfolding modelFault
-fine-shape m e =
-    let unversioned = neither (tooLong 65536 m) (wrongVersion m orElse (shapeFault m orElse negatedFault m)) e .1 in
-    neither (shapeFault m) (negatedFault m) (neither (wrongVersion m) (shapeFault m orElse negatedFault m) unversioned .1) .0
+fine-shape m e = neither (wrongVersion m) (shapeFault m) (neither (tooLong modelBytes m) (wrongVersion m orElse shapeFault m) e .1) .1
 
 pub bounded : (m : List ℕ) → shapeFault m ≡ none → Bounded (modelOf m .clauses)
 bounded m fine = record {
@@ -87,37 +84,34 @@ bounded m fine = record {
 
 module _ (m state before : List ℕ) where
   -- a bit from F on refuses, and changes nothing
-  pub fine-refused : someFrom (factCount m) (members state) ≡ true → ClosesFine m state before before (Closed.Refused 6)
+  pub fine-refused : someFrom (factCount m) (members state) ≡ true → ClosesKnown m state before before (Closed.Refused 6)
   unfolding given answer Table
   fine-refused e = record { answers = rw e; table = rw e refl }
 
   -- otherwise the table is filled
-  pub fine-closed : (clauses after : List ℕ) (n : ℕ) → someFrom (factCount m) (members state) ≡ false → clauses ≡ section m 2
-      → n ≡ rounds (clausesIn clauses) (members state) → Filled (clausesIn clauses) (members state) before after → ClosesFine m state before after (Closed.Rounds n)
-  unfolding given answer Table modelOf
-  fine-closed clauses after n e c r f = record {
-    answers = rw e (ap Closed.Rounds (r ∙ ap (λ (l : List ℕ). rounds (clausesIn l) (members state)) c));
-    table = rw e (subst (λ (l : List ℕ). Filled (clausesIn l) (members state) before after) c f);
-  }
+  pub fine-closed : (after : List ℕ) (n : ℕ) → someFrom (factCount m) (members state) ≡ false
+      → ClosesUnder (modelOf m .clauses) state before after n → ClosesKnown m state before after (Closed.Rounds n)
+  unfolding given answer Table
+  fine-closed after n e c = record { answers = rw e (ap Closed.Rounds (c .number)); table = rw e (c .filled) }
 
   -- without room
   pub no-room : noRoom state before ≡ true → Closes m state before before (Closed.Refused 1)
-  unfolding given _orElse_ refusal answer Table
+  unfolding given _orElse_ closeRefusal answer Table
   no-room e = record { answers = rw e; table = rw e refl }
 
   -- a fault of the model refuses with its number
   pub model-refused : (f : Fault) → noRoom state before ≡ false → modelFault m ≡ some f → Closes m state before before (Closed.Refused (f .number))
-  unfolding given _orElse_ refusal answer Table
+  unfolding given _orElse_ closeRefusal answer Table
   model-refused f e h = record { answers = rw (e, h); table = rw (e, h) refl }
 
   -- with none, the state tells
-  pub model-fine : (after : List ℕ) (r : Closed) → noRoom state before ≡ false → modelFault m ≡ none → ClosesFine m state before after r → Closes m state before after r
-  unfolding given _orElse_ refusal
+  pub model-fine : (after : List ℕ) (r : Closed) → noRoom state before ≡ false → modelFault m ≡ none → ClosesKnown m state before after r → Closes m state before after r
+  unfolding given _orElse_ closeRefusal
   model-fine after r e h c = record { answers = rw (e, h) (c .answers); table = rw (e, h) (c .table) }
 
 -- ---- one answer
 
--- A refusal changes nothing, and a filled table is one table.
+-- A closeRefusal changes nothing, and a filled table is one table.
 pub table-unique : (refused : Option ℕ) (cs : List Clause) (S : Facts) (before a b : List ℕ) → Table refused cs S before a → Table refused cs S before b → a ≡ b
 unfolding Table
 table-unique none cs S before a b x y = filled-unique x y
@@ -126,4 +120,4 @@ table-unique (some k) cs S before a b x y = x ∙ sym y
 -- Two results of closing that meet its promise for the same model, state and table are equal, the answer and every entry.
 pub closes-unique : {model state before a b : List ℕ} {r s : Closed} → Closes model state before a r → Closes model state before b s → (r ≡ s) × (a ≡ b)
 closes-unique {model} {state} {before} {a} {b} x y =
-    (x .answers ∙ sym (y .answers), table-unique (refusal model state before) (modelOf model .clauses) (members state) before a b (x .table) (y .table))
+    (x .answers ∙ sym (y .answers), table-unique (closeRefusal model state before) (modelOf model .clauses) (members state) before a b (x .table) (y .table))

@@ -15,10 +15,10 @@ use Rattle.meaning.specs.Model.{Clause}
 use Rattle.meaning.specs.Rounds.{round, rounds, closure, missingHeads}
 use Rattle.meaning.specs.Published.{HC}
 use Rattle.meaning.specs.Promises.{IsRounds, IsRoundNumber}
-use Rattle.sets.proofs.Laws.{is-false, passes, fails}
+use Rattle.sets.proofs.Laws.{is-false, passes, fails, below-or-from}
 use Rattle.meaning.proofs.Theorems.{closure-is-HC, closure-inside, roundNumber-is, roundNumber-outside, roundNumber-le, rounds-is, rounds-bound}
 use Rattle.facts.specs.Facts.{members}
-use Rattle.facts.proofs.Laws.{below-or-from, beyond}
+use Rattle.facts.proofs.Laws.{beyond}
 use Rattle.closing.specs.Closing.{Written, Filled, Bounded, numbered}
 
 -- Two tables that closing can leave of one table are the same.
@@ -82,7 +82,7 @@ module _ (cs : List Clause) (S : Facts) {before after : List ℕ} (filled : Fill
 -- The facts that have a number in the table are the smallest set that holds the state and obeys the clauses.
 pub filled-smallest : (cs : List Clause) {before after : List ℕ} (state : List ℕ) → Filled cs (members state) before after → Bounded cs → HC cs (members state) (numbered after)
 filled-smallest cs state filled b =
-    let same = fun-ext (filled-numbered cs (members state) filled b (beyond state)) in
+    let same = fun-ext (filled-numbered cs (members state) filled b (beyond 512 state)) in
     rw same (closure-is-HC cs (members state))
 
 module _ (cs : List Clause) (S : Facts) (answered : ℕ) (e : answered ≡ rounds cs S) where

@@ -36,6 +36,11 @@ pub record Bounded (cs : List Clause) : Type 0 where
   pub heads : (c : Clause) → c ∈ cs → c .head < 4096
   pub bodies : (c : Clause) → c ∈ cs → (b : ℕ) → b ∈ c .body → b < 4096
 
+-- what every caller of closing relies on: the number of rounds, and each fact's round number in the table
+pub record ClosesUnder (cs : List Clause) (state before after : List ℕ) (n : ℕ) : Type 0 where
+  pub number : n ≡ rounds cs (members state)
+  pub filled : Filled cs (members state) before after
+
 -- ---- closing called by itself
 
 -- 1: "state buffer under 512 bytes or round table under 4,096 entries"
@@ -48,9 +53,9 @@ unfolding first
 someFrom F S = ltb (first (λ f. leb F f && S f) 4096) 4096
 
 -- "it gives 1 to 8 below for what it is lent, then 6 for a starting state with a bit set from F on": the refusal's number
-unfoldable pub refusal : List ℕ → List ℕ → List ℕ → Option ℕ
-unfolding given _orElse_ noRoom modelFault someFrom factCount members
-refusal model state table =
+unfoldable pub closeRefusal : List ℕ → List ℕ → List ℕ → Option ℕ
+unfolding given _orElse_ noRoom modelFault someFrom factCount
+closeRefusal model state table =
     given (noRoom state table) 1
     orElse Option·map (λ f. f .number) (modelFault model)
     orElse given (someFrom (factCount model) (members state)) 6
@@ -66,11 +71,11 @@ Table none cs S before after = Filled cs S before after
 Table (some k) cs S before after = after ≡ before
 
 -- for the function within: what is left to promise for a model that nothing refuses and a table with room
-pub record ClosesFine (model state before after : List ℕ) (r : Closed) : Type 0 where
+pub record ClosesKnown (model state before after : List ℕ) (r : Closed) : Type 0 where
   pub answers : r ≡ answer (given (someFrom (factCount model) (members state)) 6) (rounds (modelOf model .clauses) (members state))
   pub table : Table (given (someFrom (factCount model) (members state)) 6) (modelOf model .clauses) (members state) before after
 
 -- what closing promises: its answer, and every entry of the table
 pub record Closes (model state before after : List ℕ) (r : Closed) : Type 0 where
-  pub answers : r ≡ answer (refusal model state before) (rounds (modelOf model .clauses) (members state))
-  pub table : Table (refusal model state before) (modelOf model .clauses) (members state) before after
+  pub answers : r ≡ answer (closeRefusal model state before) (rounds (modelOf model .clauses) (members state))
+  pub table : Table (closeRefusal model state before) (modelOf model .clauses) (members state) before after

@@ -2,23 +2,22 @@
 // for round r + 1 a body fact counts where its number is at most r, so that a head found in this sweep cannot help in it.
 ghost use mathlib.Core.Path.{_≡_};
 ghost use mathlib.Core.Bool.{cond};
+ghost use mathlib.Core.Option.{none};
 ghost use lib.Dec.{eqb};
 ghost use Prim.Native.Nat.{_+_, _≤_, _<_};
 ghost use lib.ListN.{length, getD, drop};
 ghost use Rattle.sets.specs.Sets.{every};
-ghost use Rattle.meaning.specs.Rounds.{rounds};
 ghost use Rattle.facts.specs.Facts.{members};
 ghost use Rattle.records.specs.Words.{word, words};
 ghost use Rattle.lists.specs.Lists.{AllCut};
 ghost use Rattle.records.specs.declared.Kind.{Kind};
-ghost use Rattle.files.specs.Files.{clausesIn};
-ghost use Rattle.files.specs.Answers.{Shaped};
-ghost use Rattle.closing.specs.Closing.{Written, Filled, Bounded, Closes, ClosesFine};
+ghost use Rattle.files.specs.Files.{clausesIn, modelOf, shapeFault};
+ghost use Rattle.closing.specs.Closing.{Written, Bounded, ClosesUnder, ClosesKnown, Closes};
 ghost use Rattle.closing.specs.Sweep.{Started, stored, Body, upTo, swept, adds};
 use files::Judged;
-use files::Layout;
 use files::held;
 use files::model;
+use sections::Role;
 
 // What closing answers: the number of rounds, or a refusal's number.
 pub enum Closed {
@@ -124,10 +123,9 @@ fn sweep(clauses: &[u8], table: &mut [u16], r: u16) -> bool
 
 // The rounds of a state under judged clauses: the number of rounds, and each fact's round number in the table. The caller has judged
 // the clauses' section and lends at least 4,096 entries.
-pub fn close_judged(clauses: &[u8], state: &[u8], table: &mut [u16]) -> usize
+fn close_clauses(clauses: &[u8], state: &[u8], table: &mut [u16]) -> usize
     requires { ⌜ AllCut Kind.Clause (now clauses) × Bounded (clausesIn (now clauses)) × (4096 ≤ length (now table)) ⌝ }
-    ensures { λ r. ⌜ (r ≡ rounds (clausesIn (now (clauses .entry))) (members (now (state .entry))))
-        × Filled (clausesIn (now (clauses .entry))) (members (now (state .entry))) (now (table .entry)) (now (table .exit)) ⌝ }
+    ensures { λ r. ⌜ ClosesUnder (clausesIn (now (clauses .entry))) (now (state .entry)) (now (table .entry)) (now (table .exit)) r ⌝ }
 {
     start(state, table);
     let mut r: u16 = 0;
@@ -137,16 +135,23 @@ pub fn close_judged(clauses: &[u8], state: &[u8], table: &mut [u16]) -> usize
     r as usize
 }
 
-// Closes under a judged model's clauses; a state with a fact of F or more is refused.
-fn close_shaped(model: &[u8], layout: Layout, state: &[u8], table: &mut [u16]) -> Closed
-    requires { ⌜ Shaped (now model) layout × (4096 ≤ length (now table)) ⌝ }
-    ensures { λ r. ⌜ ClosesFine (now (model .entry)) (now (state .entry)) (now (table .entry)) (now (table .exit)) r ⌝ }
+// The rounds of a state under a judged model's clauses. The caller has judged the model and lends at least 4,096 entries.
+pub fn close_judged(model: &[u8], state: &[u8], table: &mut [u16]) -> usize
+    requires { ⌜ (shapeFault (now model) ≡ none) × (4096 ≤ length (now table)) ⌝ }
+    ensures { λ r. ⌜ ClosesUnder (modelOf (now (model .entry)) .clauses) (now (state .entry)) (now (table .entry)) (now (table .exit)) r ⌝ }
 {
-    let facts = layout.facts;
-    if facts::any_from(state, facts) {
+    close_clauses(held::section(model, Role::Clauses), state, table)
+}
+
+// Closes under a judged model's clauses; a state with a fact of F or more is refused.
+fn close_known(model: &[u8], state: &[u8], table: &mut [u16]) -> Closed
+    requires { ⌜ (shapeFault (now model) ≡ none) × (4096 ≤ length (now table)) ⌝ }
+    ensures { λ r. ⌜ ClosesKnown (now (model .entry)) (now (state .entry)) (now (table .entry)) (now (table .exit)) r ⌝ }
+{
+    if facts::any_from(state, 512, held::facts(model)) {
         return Closed::Refused(6);
     }
-    Closed::Rounds(close_judged(held::clauses(model, layout), state, table))
+    Closed::Rounds(close_judged(model, state, table))
 }
 
 // Closing called by itself: judges what it is lent, fills the round table and answers the number of rounds, or refuses and changes nothing.
@@ -158,6 +163,6 @@ pub fn close(model: &[u8], state: &[u8], table: &mut [u16]) -> Closed
     }
     match model::judge_model(model) {
         Judged::Fault(fault) => Closed::Refused(fault.number),
-        Judged::Fine(layout) => close_shaped(model, layout, state, table),
+        Judged::Fine(_) => close_known(model, state, table),
     }
 }

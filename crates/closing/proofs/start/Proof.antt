@@ -10,7 +10,8 @@ use lib.ListN.{length, getD, drop}
 use lib.Seq.{drop-drop}
 use borrow.Author.Needs.{needs}
 use Rattle.facts.specs.Facts.{members}
-use Rattle.facts.proofs.Laws.{members-at, below-or-from}
+use Rattle.facts.proofs.Laws.{members-at}
+use Rattle.sets.proofs.Laws.{below-or-from}
 use Rattle.closing.specs.Sweep.{Started, stored}
 use Rattle.closing.proofs.start.Statement.{statement}
 use Rattle.closing.proofs.start.Tie as tie
@@ -35,7 +36,7 @@ abbrev μ-loop : tie.MeasureT-loop
 module _ (state table₀ table after : List ℕ) (i : ℕ) (inv : Inv-loop state table₀ 0 table i) (h : i < 512) (s : Started (getD state i 0) (i * 8) 8 table after) where
   entry : (k : ℕ) → k < 8 → getD after (i * 8 + k) 0 ≡ stored (members state) (i * 8 + k)
   unfolding stored
-  entry k l = s .entries k l ∙ ap (λ (t : Bool). cond t 0 65535) (sym (members-at state i k h l))
+  entry k l = s .entries k l ∙ ap (λ (t : Bool). cond t 0 65535) (sym (members-at 512 state i k h l))
 
   more : Inv-loop state table₀ 0 after (i + 1)
   more = (

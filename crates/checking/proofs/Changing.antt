@@ -6,17 +6,21 @@ use mathlib.Core.List.{List, _∷_, List·Memᴰ·head, List·Memᴰ·tail}
 use native.Mathlib.Omega.{arith}
 use lib.Dec.{eqb}
 use lib.ListN.{length, drop, length-drop}
-use Rattle.sets.specs.Sets.{any, listed}
+use Rattle.sets.specs.Sets.{any, listed, _∈_}
 use Rattle.facts.specs.Facts.{members}
 use Rattle.records.specs.Words.{word, words}
 use Rattle.records.proofs.Words.{words-at, words-none}
-use Rattle.checking.specs.Stepping.{Known}
 
--- the number at a place is a known fact, and so are those after it
-pub known-here : (list : List ℕ) (at : ℕ) → at + 2 ≤ length list → Known (drop at list) → (word (drop at list) < 4096) × Known (drop (at + 2) list)
-unfolding Known
+-- every number of these bytes is a fact that a state has room for
+abbrev pub Below : List ℕ → Type 0
+Below bytes = (f : ℕ) → f ∈ words bytes → f < 4096
+
+-- the number at a place is such a fact, and so are those after it
+pub known-here : (list : List ℕ) (at : ℕ) → at + 2 ≤ length list → Below (drop at list)
+    → (word (drop at list) < 4096) × Below (drop (at + 2) list)
 known-here list at h k =
-    let e : words (drop at list) ≡ word (drop at list) ∷ words (drop (at + 2) list) = words-at list at (rw length-drop (omega arith)) in
+    let more : 2 ≤ length (drop at list) = rw length-drop (omega arith) in
+    let e : words (drop at list) ≡ word (drop at list) ∷ words (drop (at + 2) list) = words-at list at more in
     (k (word (drop at list)) (rw e (List·Memᴰ·head refl)), λ f i. k f (rw e (List·Memᴰ·tail i)))
 
 -- u is what a fact of the list does to the membership of a fact: adding or removing

@@ -1,12 +1,6 @@
 pub mod Changing
-pub mod Runs
-pub mod Conditions
-pub mod Searching
-pub mod Fine
+pub mod Looking
+pub mod Stepwise
+pub mod Ends
 pub mod Verdicts
-pub mod Below
-pub mod Refusals
-pub mod Faults
-pub mod Causes
-pub mod Theorems
-pub mod Cases
+pub mod Checks

@@ -1,71 +1,97 @@
--- What the run's own functions are told and leave: a judged pair, and where the search ended.
-use Prim.Native.Nat.{ℕ, _≤_, _<_}
+-- What the run's own functions are told and leave, and what their answers are in the words of `meaning`. No promise to the outside rests
+-- on these.
+use Prim.Native.Nat.{ℕ, _+_, _*_, _≤_, _<_}
 use mathlib.Core.Path.{_≡_}
-use mathlib.Core.Bool.{cond}
 use mathlib.Core.List.{List}
-use mathlib.Core.Option.{none}
-use lib.Dec.{ltb, eqb}
-use lib.ListN.{length, getD}
-use Rattle.meaning.specs.Model.{Goal as Conditions, Model, Trace, ruleOf, goalOf}
-use Rattle.sets.specs.Sets.{listed, size}
-use Rattle.meaning.specs.Run.{Outcome}
-use Rattle.meaning.specs.Rounds.{rounds, roundNumber}
-use Rattle.facts.specs.Facts.{members}
-use Rattle.records.specs.declared.Kind.{Kind}
-use Rattle.records.specs.declared.Kind.the-variants.{Rule, Goal}
-use Rattle.lists.specs.Lists.{Cut}
-use Rattle.records.specs.Records.{listOf}
-use Rattle.files.specs.Files.{pairFault, factCount, modelOf, traceOf, ruleIn}
-use Rattle.files.specs.Answers.{layoutOf}
-use Rattle.files.specs.declared.Layout.{Layout}
-use Rattle.checking.specs.Verdict.{outcome, Left}
+use mathlib.Core.Option.{Option, none, some}
+use lib.ListN.{length, getD, drop}
+use Rattle.sets.specs.Sets.{Facts}
+use Rattle.meaning.specs.Model.{Model, goalOf, start}
+use Rattle.meaning.specs.Run.{Condition, Reached, Ending, Outcome, conditions, unmet, reach}
+use Rattle.meaning.specs.Run.Condition.{positive, negative}
+use Rattle.meaning.specs.Run.Ending.{attack, blocked, notMet}
+use Rattle.meaning.specs.Rounds.{rounds}
+use Rattle.facts.specs.Facts.{members, Kept}
+use Rattle.files.specs.Files.{pairFault, modelOf, traceOf}
+use Rattle.closing.specs.Closing.{Filled}
+use Rattle.checking.specs.Verdict.{Lent, factIn, outcome, Left}
+use Rattle.checking.specs.declared.conditions.Condition.the-variants as condition
+use Rattle.checking.specs.declared.conditions.Unmet.the-variants as found
+use Rattle.checking.specs.declared.running.Ending.the-variants as ending
+use Rattle.checking.specs.declared.running.Steps.{Steps}
 use Rattle.checking.specs.declared.running.Ended.{Ended}
 
--- a pair that nothing refuses, with its layout and buffers of enough room
-pub record Ready (m t : List ℕ) (l : Layout) (state table : List ℕ) : Type 0 where
+-- ---- answers
+
+unfoldable pub conditionOf : condition.the-data → Condition
+conditionOf (condition.Positive f) = positive f
+conditionOf (condition.Negative f) = negative f
+
+unfoldable pub unmetOf : found.the-data → Option Condition
+unfolding conditionOf
+unmetOf found.Nowhere = none
+unmetOf (found.At c) = some (conditionOf c)
+
+unfoldable pub endingOf : ending.the-data → Ending
+unfolding conditionOf
+endingOf ending.Attack = attack
+endingOf (ending.Blocked c) = blocked (conditionOf c)
+endingOf (ending.NotMet c) = notMet (conditionOf c)
+
+-- the condition's fact is one that a table has an entry for
+unfoldable pub KnownIn : Condition → Type 0
+unfolding factIn
+KnownIn c = factIn c < 4096
+
+-- ---- the run
+
+-- a pair that nothing refuses, with buffers of enough room
+pub record Ready (m t : List ℕ) (l : Lent) : Type 0 where
   pub fine : pairFault m t ≡ none
-  pub layout : l ≡ layoutOf m
-  pub room : 512 ≤ length state
-  pub entries : 4096 ≤ length table
+  pub room : 512 ≤ length (l .state)
+  pub entries : 4096 ≤ length (l .table)
 
--- the buffers hold the initial state and its round numbers, and this is its number of rounds
-pub record Begun (m : Model) (first : ℕ) (state table : List ℕ) : Type 0 where
-  pub facts : (g : ℕ) → members state g ≡ listed (m .initial) g
-  pub numbers : (f : ℕ) → f < 4096 → getD table f 0 ≡ roundNumber (m .clauses) (members state) f
-  pub rounds : first ≡ rounds (m .clauses) (members state)
+-- where the pair's steps lead
+unfoldable pub reached : List ℕ → List ℕ → Reached
+unfolding reach start modelOf traceOf
+reached m t = reach (modelOf m) (start (modelOf m)) (traceOf t .steps)
 
--- the conditions judged at step i: those of its rule, and after the last step the attack state's
-unfoldable pub asked : Model → Trace → ℕ → Conditions
-unfolding ruleOf goalOf
-asked m t i =
-    cond (ltb i (length (t .steps)))
-    (let r = ruleOf m (getD (t .steps) i 0) in record { P = r .P; N = r .N })
-    (goalOf m (t .goal))
+-- the rounds counted when the search over the steps ends: those of the last state too, where a step is blocked in it
+unfoldable pub counted : Model → Reached → ℕ
+unfolding rounds
+counted m r = elim (r .stop) [ none ↦ r .earlier | some c ↦ r .earlier + rounds (m .clauses) (r .state .facts) ]
 
--- the kind of the record whose conditions those are
-unfoldable pub kindAt : ℕ → ℕ → Kind
-kindAt i steps = cond (ltb i steps) Rule Goal
+-- what the search over the steps leaves: the last state, and where a step is blocked in it, its round numbers
+pub record StepsTo (m t : List ℕ) (before after : Lent) (r : Steps) : Type 0 where
+  pub fired : r .fired ≡ reached m t .fired
+  pub stop : unmetOf (r .stop) ≡ reached m t .stop
+  pub rounds : r .rounds ≡ counted (modelOf m) (reached m t)
+  pub facts : (g : ℕ) → members (after .state) g ≡ reached m t .state .facts g
+  pub kept : Kept 512 (before .state) (after .state)
+  pub as-long : length (after .table) ≡ length (before .table)
+  pub beyond : drop 4096 (after .table) ≡ drop 4096 (before .table)
+  pub filled : (c : Condition) → reached m t .stop ≡ some c
+      → Filled (modelOf m .clauses) (reached m t .state .facts) (before .table) (after .table)
+  pub within : r .fired ≤ length (traceOf t .steps)
+  pub bound : r .rounds ≤ 4096 * (r .fired + 1)
 
--- these bytes are the record whose conditions are judged at step i
-pub record AskedIn (m : Model) (t : Trace) (i : ℕ) (r : List ℕ) : Type 0 where
-  pub cut : Cut (kindAt i (length (t .steps))) r
-  pub P : listOf (kindAt i (length (t .steps))) r 0 ≡ asked m t i .P
-  pub N : listOf (kindAt i (length (t .steps))) r 1 ≡ asked m t i .N
-  pub rule : i < length (t .steps) → ruleIn r ≡ ruleOf m (getD (t .steps) i 0)
+-- what the attack state's conditions come to in a set: in the last state's closure, what `asked` says
+unfoldable pub askedIn : Model → ℕ → Facts → Ending
+unfolding unmet conditions goalOf
+askedIn m g X = elim (unmet X (conditions (goalOf m g .P) (goalOf m g .N))) [ none ↦ attack | some c ↦ notMet c ]
 
--- the number of a run that ended at this step with this fact: 0 for none, else 10 at a step and 11 after the last
-unfoldable pub numberOf : ℕ → Ended → ℕ
-numberOf steps e = cond (eqb (e .fact) 65535) 0 (cond (ltb (e .step) steps) 10 11)
+-- what the run has come to, with the facts held
+pub record Shows (o : Outcome) (steps : ℕ) (e : Ended) (held : ℕ) : Type 0 where
+  pub within : e .step ≤ steps
+  pub ending : endingOf (e .ending) ≡ o .ending
+  pub step : e .step ≡ o .step
+  pub rounds : e .rounds ≡ o .rounds
+  pub held-is : held ≡ o .held
 
--- where the search ended, and the facts held there, are the outcome of the run
-pub record Ends (o : Outcome) (steps : ℕ) (e : Ended) (facts : ℕ) : Type 0 where
-  pub number : o .number ≡ numberOf steps e
-  pub step : o .step ≡ e .step
-  pub fact : o .fact ≡ e .fact
-  pub rounds : o .rounds ≡ e .rounds
-  pub held : o .held ≡ facts
-
--- the search's promise: that, and the buffers hold the last state and its round numbers
-pub record EndsAt (m t state state' table table' : List ℕ) (e : Ended) : Type 0 where
-  pub ends : Ends (outcome m t) (length (traceOf t .steps)) e (size (members state') (factCount m))
-  pub left : Left (modelOf m) (outcome m t) state state' table table'
+-- what the run has come to, and the last state and its round numbers
+pub record EndsAs (m t : List ℕ) (before after : Lent) (e : Ended) : Type 0 where
+  pub within : e .step ≤ length (traceOf t .steps)
+  pub ending : endingOf (e .ending) ≡ outcome m t .ending
+  pub step : e .step ≡ outcome m t .step
+  pub rounds : e .rounds ≡ outcome m t .rounds
+  pub left : Left (modelOf m) (outcome m t) before after

@@ -1,170 +1,191 @@
-// The run of a judged pair: the search over the steps and their conditions for the first that is not met.
+// The run of a judged pair: the search over the steps and their conditions for the first that is not met, and what is then asked of the
+// last state reached. The caller has judged the pair and lends buffers of enough room.
 ghost use mathlib.Core.Path.{_≡_};
 ghost use mathlib.Core.Option.{none};
-ghost use Prim.Native.Nat.{_-_, _/_, _≤_};
+ghost use Prim.Native.Nat.{ℕ, _≤_};
 ghost use lib.ListN.{length};
+ghost use Rattle.sets.specs.Sets.{listed};
+ghost use Rattle.facts.specs.Facts.{members};
 ghost use Rattle.files.specs.Files.{pairFault, modelOf, traceOf};
-ghost use Rattle.files.specs.Answers.{layoutOf};
-ghost use Rattle.checking.specs.Running.{Ready, Begun, AskedIn, Ends, EndsAt, kindAt};
-ghost use Rattle.checking.specs.Verdict.{outcome, ran, Left};
+ghost use Rattle.closing.specs.Closing.{numbered};
+ghost use Rattle.checking.specs.Verdict.{factIn, outcome, ran, Left};
+ghost use Rattle.checking.specs.Running.{Ready, StepsTo, EndsAs, Shows, conditionOf, endingOf, askedIn};
 use super::Verdict;
+use super::conditions;
+use super::conditions::Condition;
+use super::conditions::Unmet;
 use super::stepping;
-use files::Layout;
+use files::Part;
 use files::held;
+use files::trace;
 use records::Kind;
+use sections::Role;
 
-// Where a search ended: the step, the condition not met (65,535 for none), and the rounds of all states reached.
+// Where the steps led: how many fired, the rounds counted, and the condition that blocks the next step.
+pub struct Steps {
+    pub fired: usize,
+    pub rounds: usize,
+    pub stop: Unmet,
+}
+
+// How a run ends.
+pub enum Ending {
+    Attack,
+    Blocked(Condition),
+    NotMet(Condition),
+}
+
+// How and at which step a run ended, and the rounds of all states reached.
 pub struct Ended {
+    pub ending: Ending,
     pub step: usize,
-    pub fact: usize,
     pub rounds: usize,
 }
 
-// How many steps the trace has. The caller has judged the trace.
-fn steps_of(trace: &[u8]) -> usize
-    requires { ⌜ 7 ≤ length (now trace) ⌝ }
-    ensures { λ r. ⌜ r ≡ (length (now (trace .entry)) - 7) / 2 ⌝ }
+// Runs the steps from the initial state and stops at the first condition of a step's rule that is not met, P in its order and then N in
+// its order. All of a rule's conditions are judged before the state is changed.
+fn search(model: &[u8], trace: &[u8], state: &mut [u8], table: &mut [u16]) -> Steps
+    requires { ⌜ Ready (now model) (now trace) (record { state = now state; table = now table })
+        × ((g : ℕ) → members (now state) g ≡ listed (modelOf (now model) .initial) g) ⌝ }
+    ensures { λ r. ⌜ StepsTo (now (model .entry)) (now (trace .entry))
+        (record { state = now (state .entry); table = now (table .entry) })
+        (record { state = now (state .exit); table = now (table .exit) }) r ⌝ }
 {
-    (trace.len() - 7) / 2
-}
-
-// Whose conditions are judged at a step: a rule's, and the attack state's after the last.
-fn kind_at(step: usize, steps: usize) -> Kind
-    ensures { λ r. ⌜ r ≡ kindAt step steps ⌝ }
-{
-    if step < steps { Kind::Rule } else { Kind::Goal }
-}
-
-// The record whose conditions are judged at a step. The caller has judged the pair.
-fn asked<'a>(model: &'a [u8], trace: &[u8], layout: Layout, step: usize, steps: usize) -> &'a [u8]
-    requires { ⌜ (pairFault (now model) (now trace) ≡ none) × (layout ≡ layoutOf (now model)) × (steps ≡ length (traceOf (now trace) .steps)) × (step ≤ steps) ⌝ }
-    ensures { λ r. ⌜ AskedIn (modelOf (now (model .entry))) (traceOf (now (trace .entry))) step (now r) ⌝ }
-{
-    if step < steps {
-        let rules = held::rules(model, layout);
-        records::record_at(
-            rules,
-            records::place(rules, records::word_at(trace, 7 + 2 * step)),
-        )
-    } else {
-        let goals = held::goals(model, layout);
-        records::record_at(goals, records::place(goals, records::word_at(trace, 5)))
+    let entries = held::entries(trace);
+    let steps = entries.len() / 2 - 1;
+    let mut fired = 0;
+    let mut rounds = 0;
+    let stop = 'search: loop {
+        if steps <= fired {
+            break 'search Unmet::Nowhere;
+        }
+        rounds += closing::close_judged(model, state, table);
+        let rule = held::record(model, Role::Rules, records::word_at(entries, 2 + 2 * fired));
+        let p = lists::list_of(rule, Kind::Rule, 0);
+        let n = lists::list_of(rule, Kind::Rule, 1);
+        let count = conditions::count(p, n);
+        let mut i = 0;
+        while i < count {
+            let c = conditions::nth(p, n, i);
+            if !conditions::meets(table, c) {
+                break 'search Unmet::At(c);
+            }
+            i += 1;
+        }
+        stepping::apply(p, lists::list_of(rule, Kind::Rule, 2), state);
+        fired += 1;
+    };
+    Steps {
+        fired,
+        rounds,
+        stop,
     }
 }
 
-// Runs the steps from the initial state, whose rounds are in the table, and stops at the first condition that is not met: of each
-// step's rule, and after the last step of the attack state, P in its order and then N in its order.
-fn search(
-    model: &[u8],
-    trace: &[u8],
-    layout: Layout,
-    first: usize,
-    state: &mut [u8],
-    table: &mut [u16],
-) -> Ended
-    requires { ⌜ Ready (now model) (now trace) layout (now state) (now table) × Begun (modelOf (now model)) first (now state) (now table) ⌝ }
-    ensures { λ r. ⌜ EndsAt (now (model .entry)) (now (trace .entry)) (now (state .entry)) (now (state .exit)) (now (table .entry)) (now (table .exit)) r ⌝ }
+// What is asked of the last state after all steps: whether the attack state is met in the closure that the table has.
+fn ask(model: &[u8], trace: &[u8], table: &[u16]) -> Ending
+    requires { ⌜ (pairFault (now model) (now trace) ≡ none) × (4096 ≤ length (now table)) ⌝ }
+    ensures { λ r. ⌜ endingOf r ≡ askedIn (modelOf (now (model .entry))) (traceOf (now (trace .entry)) .goal) (numbered (now (table .entry))) ⌝ }
 {
-    let clauses = held::clauses(model, layout);
-    let steps = steps_of(trace);
-    let mut rounds = first;
-    let mut step = 0;
-    let mut fact = 65535;
-    'search: loop {
-        let record = asked(model, trace, layout, step, steps);
-        let kind = kind_at(step, steps);
-        let p = lists::list_of(record, kind, 0);
-        let mut at = 0;
-        while at < p.len() {
-            let f = records::word_at(p, at);
-            if table[f] == 65535 {
-                fact = f;
-                break 'search;
-            }
-            at += 2;
-        }
-        let n = lists::list_of(record, kind, 1);
-        at = 0;
-        while at < n.len() {
-            let f = records::word_at(n, at);
-            if table[f] != 65535 {
-                fact = f;
-                break 'search;
-            }
-            at += 2;
-        }
-        if steps <= step {
-            break 'search;
-        }
-        stepping::apply(record, state);
-        rounds += closing::close_judged(clauses, state, table);
-        step += 1;
+    let goal = held::record(
+        model,
+        Role::Goals,
+        records::word_at(held::entries(trace), 0),
+    );
+    let p = lists::list_of(goal, Kind::Goal, 0);
+    let n = lists::list_of(goal, Kind::Goal, 1);
+    match conditions::first_unmet(p, n, table) {
+        Unmet::Nowhere => Ending::Attack,
+        Unmet::At(c) => Ending::NotMet(c),
     }
-    Ended { step, fact, rounds }
 }
 
-// The verdict of a run that ended so, with the number of facts held and the bytes at fault.
-fn verdict(model: &[u8], trace: &[u8], layout: Layout, ended: Ended, held: usize) -> Verdict
-    requires { ⌜ (pairFault (now model) (now trace) ≡ none) × (layout ≡ layoutOf (now model)) × Ends (outcome (now model) (now trace)) (length (traceOf (now trace) .steps)) ended held ⌝ }
+// The end of a run whose steps led so: a blocked step, or what is asked of the last state, which is closed for it.
+fn finish(model: &[u8], trace: &[u8], reached: Steps, state: &[u8], table: &mut [u16]) -> Ended
+    requires { ⌜ Ready (now model) (now trace) (record { state = now state; table = now table })
+        × StepsTo (now model) (now trace) (record { state = now state; table = now table }) (record { state = now state; table = now table }) reached ⌝ }
+    ensures { λ r. ⌜ EndsAs (now (model .entry)) (now (trace .entry))
+        (record { state = now (state .entry); table = now (table .entry) })
+        (record { state = now (state .entry); table = now (table .exit) }) r ⌝ }
+{
+    let stop = reached.stop;
+    match stop {
+        Unmet::At(c) => Ended {
+            ending: Ending::Blocked(c),
+            step: reached.fired,
+            rounds: reached.rounds,
+        },
+        Unmet::Nowhere => {
+            let rounds = closing::close_judged(model, state, table);
+            Ended {
+                ending: ask(model, trace, table),
+                step: reached.fired,
+                rounds: reached.rounds + rounds,
+            }
+        }
+    }
+}
+
+// A condition's fact.
+fn fact_of(c: Condition) -> usize
+    ensures { λ r. ⌜ r ≡ factIn (conditionOf c) ⌝ }
+{
+    match c {
+        Condition::Positive(f) => f,
+        Condition::Negative(f) => f,
+    }
+}
+
+// The verdict of a run that ended so, with the number of facts held.
+fn verdict(model: &[u8], trace: &[u8], ended: Ended, held: usize) -> Verdict
+    requires { ⌜ (pairFault (now model) (now trace) ≡ none) × Shows (outcome (now model) (now trace)) (length (traceOf (now trace) .steps)) ended held ⌝ }
     ensures { λ r. ⌜ r ≡ ran (now (model .entry)) (now (trace .entry)) (outcome (now (model .entry)) (now (trace .entry))) ⌝ }
 {
     let step = ended.step;
-    let fact = ended.fact;
     let rounds = ended.rounds;
-    if fact == 65535 {
-        return Verdict {
+    let ending = ended.ending;
+    match ending {
+        Ending::Attack => Verdict {
             number: 0,
             step,
-            fact,
+            fact: 65535,
             rounds,
             held,
-            mark: 0,
-            start: 0,
-            size: 0,
-        };
-    }
-    if step < steps_of(trace) {
-        return Verdict {
+            part: Part {
+                mark: 0,
+                start: 0,
+                size: 0,
+            },
+        },
+        Ending::Blocked(c) => Verdict {
             number: 10,
             step,
-            fact,
+            fact: fact_of(c),
             rounds,
             held,
-            mark: 1,
-            start: 7 + 2 * step,
-            size: 2,
-        };
-    }
-    let goals = held::goals(model, layout);
-    let at = records::place(goals, records::word_at(trace, 5));
-    let record = records::record_at(goals, at);
-    let from = layout.goals;
-    Verdict {
-        number: 11,
-        step,
-        fact,
-        rounds,
-        held,
-        mark: 0,
-        start: from + 4 + at,
-        size: record.len(),
+            part: trace::entry_part(trace, 1 + step),
+        },
+        Ending::NotMet(c) => Verdict {
+            number: 11,
+            step,
+            fact: fact_of(c),
+            rounds,
+            held,
+            part: held::goal_part(model, records::word_at(held::entries(trace), 0)),
+        },
     }
 }
 
-// Runs a judged pair. The caller has judged it, and lends buffers of enough room.
-pub fn run(
-    model: &[u8],
-    trace: &[u8],
-    layout: Layout,
-    state: &mut [u8],
-    table: &mut [u16],
-) -> Verdict
-    requires { ⌜ Ready (now model) (now trace) layout (now state) (now table) ⌝ }
+// Runs a judged pair.
+pub fn run(model: &[u8], trace: &[u8], state: &mut [u8], table: &mut [u16]) -> Verdict
+    requires { ⌜ Ready (now model) (now trace) (record { state = now state; table = now table }) ⌝ }
     ensures { λ r. ⌜ (r ≡ ran (now (model .entry)) (now (trace .entry)) (outcome (now (model .entry)) (now (trace .entry))))
-        × Left (modelOf (now (model .entry))) (outcome (now (model .entry)) (now (trace .entry))) (now (state .entry)) (now (state .exit)) (now (table .entry)) (now (table .exit)) ⌝ }
+        × Left (modelOf (now (model .entry))) (outcome (now (model .entry)) (now (trace .entry)))
+        (record { state = now (state .entry); table = now (table .entry) })
+        (record { state = now (state .exit); table = now (table .exit) }) ⌝ }
 {
-    stepping::begin(held::initial(model, layout), state);
-    let first = closing::close_judged(held::clauses(model, layout), state, table);
-    let ended = search(model, trace, layout, first, state, table);
-    verdict(model, trace, layout, ended, facts::count(state))
+    stepping::begin(held::section(model, Role::Initial), state);
+    let reached = search(model, trace, state, table);
+    let ended = finish(model, trace, reached, state, table);
+    verdict(model, trace, ended, facts::count(state, 512))
 }

@@ -1,9 +1,9 @@
 -- The bits of one byte: what the masks, the shift and the count of src/ say of them, and the byte that has given bits.
 -- There are 256 bytes of 8 bits each, so most of this is computed at every one.
-use Prim.Native.Nat.{ℕ, zero, suc, _+_, _-_, _*_, _/_, _%_, _^_, _≤_, _<_, zero-le}
+use Prim.Native.Nat.{ℕ, zero, suc, _+_, _-_, _*_, _/_, _%_, _^_, _≤_, _<_}
 use mathlib.Core.Path.{_≡_, refl, sym, ap, ap₂, _∙_}
 use mathlib.Core.Bool.{Bool, true, false, not, _&&_, _||_, Bool·beq, cond}
-use mathlib.Core.Logic.{inl, inr, ⊎-elim}
+use mathlib.Core.Logic.{⊎-elim}
 use native.Mathlib.Nat.{zero-div, add-sub-of-le, pow-suc, eq-or-lt-of-le, le-of-suc-le-suc, not-suc-le-zero}
 use native.Mathlib.Numerals.{one-add}
 use native.Mathlib.Omega.{arith}
@@ -116,15 +116,15 @@ changed false b j = bitAnd b (255 - 2 ^ j)
 pub on-changed : (to : Bool) (b j k : ℕ) → b < 256 → j < 8 → k < 8 → on (changed to b j) k ≡ cond (eqb k j) to (on b k)
 unfolding packed
 on-changed to b j k hb hj hk =
-    ap (λ (c : ℕ). on c k) (eqb→eq _ _ (table (is to) (computed to) b j hb hj)) ∙ on-packed 8 (bits to b j) k hk
+    ap (λ (c : ℕ). on c k) (eqb→eq _ _ (table (same to) (computed to) b j hb hj)) ∙ on-packed 8 (bits to b j) k hk
   where
     bits : Bool → ℕ → ℕ → Facts
     bits to b j k = cond (eqb k j) to (on b k)
 
-    is : Bool → ℕ → ℕ → Bool
-    is to b j = eqb (changed to b j) (packed 8 (bits to b j))
+    same : Bool → ℕ → ℕ → Bool
+    same to b j = eqb (changed to b j) (packed 8 (bits to b j))
 
-    computed : (to : Bool) → T (all 256 (λ b. all 8 (is to b)))
+    computed : (to : Bool) → T (all 256 (λ b. all 8 (same to b)))
     computed true = tt
     computed false = tt
 
@@ -134,9 +134,8 @@ unfolding first
 on-some b j hb hj p =
     let k : ℕ = first (from b j) 8 in
     let left = table (λ c i. eqb (c / 2 ^ i) 0 || ltb (first (from c i) 8) 8) tt b j hb hj in
-    let low : k < 8 =
-    ⊎-elim (λ z. absurd (omega (arith, eqb→eq (b / 2 ^ j) 0 z))) (ltb→lt k 8)
-    (either (eqb (b / 2 ^ j) 0) (ltb k 8) .0 left) in
+    let cases = either (eqb (b / 2 ^ j) 0) (ltb k 8) .0 left in
+    let low : k < 8 = ⊎-elim (λ z. absurd (omega (arith, eqb→eq (b / 2 ^ j) 0 z))) (ltb→lt k 8) cases in
     let (after, bit) = both (leb j k) (on b k) .0 (passes (first-hit (from b j) 8 low)) in
     (k, leb→le j k after, low, bit)
   where

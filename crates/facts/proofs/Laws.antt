@@ -1,7 +1,7 @@
 -- The laws of sets in bytes: what a write of one byte does, that a buffer can hold every set, and that each contract
 -- determines every byte. Throughout, w is the width: the set lies in the first w bytes of its buffer.
 use Prim.Native.Nat.{ℕ, zero, suc, _+_, _-_, _*_, _/_, _%_, _^_, _≤_, _<_, zero-le, min}
-use mathlib.Core.Path.{_≡_, refl, sym, ap, ap₂, _∙_, subst}
+use mathlib.Core.Path.{_≡_, refl, sym, ap, ap₂, _∙_}
 use mathlib.Core.Bool.{Bool, true, false, not, _&&_, _||_, cond, and-true, and-false, or-true, or-false}
 use mathlib.Core.Logic.{⊎-elim}
 use mathlib.Core.List.{List, [], _∷_}
@@ -224,11 +224,11 @@ same-bytes w a b ha hb long same rest = ext-getD 0 a b long (λ i _. ⊎-elim (n
         same-bits (getD a i 0) (getD b i 0) (ha i) (hb i)
         (λ k hk. sym (members-at w a i k h hk) ∙ same (i * 8 + k) ∙ members-at w b i k h hk)
 
+    past : (l : List ℕ) (i : ℕ) → w ≤ i → getD (drop w l) (i - w) 0 ≡ getD l i 0
+    past l i h = getD-drop w l (i - w) 0 ∙ ap (λ (k : ℕ). getD l k 0) (add-sub-of-le h)
+
     far : (i : ℕ) → w ≤ i → getD a i 0 ≡ getD b i 0
-    far i h =
-        let past : (l : List ℕ) → getD l i 0 ≡ getD (drop w l) (i - w) 0 =
-        λ l. ap (λ (k : ℕ). getD l k 0) (sym (add-sub-of-le h)) ∙ sym (getD-drop w l (i - w) 0) in
-        past a ∙ ap (λ (l : List ℕ). getD l (i - w) 0) rest ∙ sym (past b)
+    far i h = sym (past a i h) ∙ ap (λ (l : List ℕ). getD l (i - w) 0) rest ∙ past b i h
 
 -- What an operation leaves alone and the set after it determine every byte.
 pub determined : {w : ℕ} {l a b : List ℕ} → Bytes a → Bytes b → Kept w l a → Kept w l b

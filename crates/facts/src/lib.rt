@@ -57,9 +57,9 @@ pub fn remove(set: &mut [u8], width: u32, n: usize)
 pub fn clear(set: &mut [u8], width: u32)
     ensures { λ _. ⌜ Cleared width (now (set .entry)) (now (set .exit)) ⌝ }
 {
-    let bytes = held(set.len(), width);
+    let all = held(set.len(), width);
     let mut i = 0;
-    while i < bytes {
+    while i < all {
         set[i] = 0;
         i += 1;
     }
@@ -84,10 +84,10 @@ pub fn count(set: &[u8], width: u32) -> usize
 pub fn any_from(set: &[u8], width: u32, from: usize) -> bool
     ensures { λ r. ⌜ AnyFrom width (now (set .entry)) from r ⌝ }
 {
-    let bytes = held(set.len(), width);
+    let end = held(set.len(), width);
     let mut i = from / 8;
     let mut skip = from % 8;
-    while i < bytes {
+    while i < end {
         let rest = set[i] >> skip;
         if rest > 0 {
             return true;

@@ -67,15 +67,15 @@ module _ (file : List ℕ) (fine : shapeFault file ≡ none) where
   initial-ascending = bare-fine (factCount file) (sectionOf file Initial) (all-fine _ _ (judged-section file fine Initial)) .1
 
   -- No record of the clauses, of the rules and of the attack states is at fault.
-  clauses-judged : firstFault (judge kind.Clause (factCount file)) (sectionOf file Clauses) ≡ none
+  pub clauses-judged : firstFault (judge kind.Clause (factCount file)) (sectionOf file Clauses) ≡ none
   unfolding reader
   clauses-judged = judged-section file fine Clauses
 
-  rules-judged : firstFault (judge kind.Rule (factCount file)) (sectionOf file Rules) ≡ none
+  pub rules-judged : firstFault (judge kind.Rule (factCount file)) (sectionOf file Rules) ≡ none
   unfolding reader
   rules-judged = judged-section file fine Rules
 
-  goals-judged : firstFault (judge kind.Goal (factCount file)) (sectionOf file Goals) ≡ none
+  pub goals-judged : firstFault (judge kind.Goal (factCount file)) (sectionOf file Goals) ≡ none
   unfolding reader
   goals-judged = judged-section file fine Goals
 

@@ -4,3 +4,4 @@ pub mod Order
 pub mod Laws
 pub mod Entries
 pub mod Traces
+pub mod Lists

@@ -2,7 +2,7 @@
 -- bare numbers are that have no fault.
 use Prim.Native.Nat.{ℕ, suc, _+_, _-_, _≤_, _<_}
 use mathlib.Core.Path.{_≡_, refl, _∙_, sym, ap}
-use mathlib.Core.Bool.{true, not}
+use mathlib.Core.Bool.{true, false, not}
 use mathlib.Core.List.{List, [], _∷_}
 use mathlib.Core.Option.{Option, none, some, Option·some-ne-none}
 use native.Mathlib.Numerals.{add-one}
@@ -93,7 +93,13 @@ sizes-fine bytes e =
     let (two, small) = neither (given (not (eqb (length bytes) 2)) 4) (given (ltb 4096 (word bytes)) 5) e in
     (eqb-true _ _ (not-false _ (not-given _ _ two)), ltb-false _ _ (not-given _ _ small))
 
--- Bare numbers with no fault are below F and strictly ascending.
+-- Bare numbers with no fault leave no byte over,
+pub bare-even : (F : ℕ) (bytes : List ℕ) → bare F bytes ≡ none → odd bytes ≡ false
+unfolding bare
+bare-even F bytes e =
+    not-given _ _ (neither (given (odd bytes) 4) (given (any (leb F) (words bytes)) 6 orElse given (not (ascending (words bytes))) 7) e .0)
+
+-- and are below F and strictly ascending.
 pub bare-fine : (F : ℕ) (bytes : List ℕ) → bare F bytes ≡ none
     → ((f : ℕ) → f ∈ words bytes → f < F) × (ascending (words bytes) ≡ true)
 unfolding bare

@@ -171,3 +171,34 @@ pair-named m t e =
     let fine = fine-pair m t e .trace in
     rw (lt-ltb _ _ (trace-goal-known goals rules t fine))
     (every-at (λ k. ltb k rules) (traceOf t .steps) (λ i h. lt-ltb _ _ (trace-step-known goals rules t fine i h)))
+
+-- What a pair with no fault has, as the run needs it.
+module _ (m t : List ℕ) (fine : pairFault m t ≡ none) where
+  trace-fine : traceFault (length (modelOf m .goals)) (length (modelOf m .rules)) t ≡ none
+  trace-fine = fine-pair m t fine .trace
+
+  pub pair-shape : shapeFault m ≡ none
+  pair-shape = fine-pair m t fine .shape
+
+  pub pair-fits : fits t (sectionAt t 0) ≡ true
+  pair-fits = trace-fits _ _ t trace-fine
+
+  pub pair-entries : length (entriesOf t) ≡ 2 + 2 * length (traceOf t .steps)
+  pair-entries = trace-length _ _ t trace-fine
+
+  pub pair-few : length (traceOf t .steps) ≤ 1024
+  pair-few = trace-short _ _ t trace-fine
+
+  pub pair-step : (i : ℕ) → i < length (traceOf t .steps) → getD (traceOf t .steps) i 0 ≡ word (drop (2 + 2 * i) (entriesOf t))
+  pair-step = trace-step _ _ t trace-fine
+
+  pub pair-step-known : (i : ℕ) → i < length (traceOf t .steps) → getD (traceOf t .steps) i 0 < length (modelOf m .rules)
+  pair-step-known = trace-step-known _ _ t trace-fine
+
+  pub pair-goal-known : traceOf t .goal < length (modelOf m .goals)
+  pair-goal-known = trace-goal-known _ _ t trace-fine
+
+-- The attack state's number is the first entry.
+pub goal-entry : (t : List ℕ) → traceOf t .goal ≡ word (entriesOf t)
+unfolding traceOf
+goal-entry t = refl

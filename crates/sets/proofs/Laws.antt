@@ -1,11 +1,12 @@
 -- Laws of tests, and of the words of specs/Sets: every, any, listed, first.
 use Prim.Native.Nat.{ℕ, zero, suc, _≤_, _<_}
-use native.Mathlib.Nat.{eq-or-lt-of-le}
+use native.Mathlib.Nat.{eq-or-lt-of-le, not-suc-le-zero, le-of-suc-le-suc}
 use native.Mathlib.Omega.{arith}
 use mathlib.Core.Path.{_≡_, refl, sym, _∙_}
 use mathlib.Core.Logic.{_↔_, _⊎_, inl, inr}
 use mathlib.Core.Bool.{Bool, true, false, true≢false, not, _&&_, _||_}
 use mathlib.Core.List.{List, [], _∷_, map, List·Memᴰ·head, List·Memᴰ·tail, Memᴰ·cast}
+use lib.ListN.{length, getD}
 use lib.Dec.{T, eqb, ltb, eqb→eq, eqb-refl}
 use borrow.Author.Tests.{ltb-true, ltb-false}
 use Rattle.sets.specs.Sets.{every, any, listed, first, _∈_}
@@ -155,3 +156,9 @@ module _ (p : ℕ → Bool) (n : ℕ) where
 -- Numbers of which no two are one below the other are one number.
 pub one-number : (P : ℕ → Type 0) → ((a b : ℕ) → P a → P b → a < b → ⊥) → {a b : ℕ} → P a → P b → a ≡ b
 one-number P h {a} {b} x y = let l = h a b x y in let g = h b a y x in omega arith
+
+-- The entry at an index of a list is one of its entries.
+pub getD-in {ℓ} : {A : Type ℓ} (xs : List A) (i : ℕ) (d : A) → i < length xs → getD xs i d ∈ xs
+getD-in [] i d h = absurd (not-suc-le-zero h)
+getD-in (x ∷ xs) zero d h = List·Memᴰ·head refl
+getD-in (x ∷ xs) (suc i) d h = List·Memᴰ·tail (getD-in xs i d (le-of-suc-le-suc h))

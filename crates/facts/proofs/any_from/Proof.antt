@@ -1,5 +1,5 @@
--- `facts::any_from` meets its contract. The loop's invariant: number i * 8 + skip comes next, and no number from `from`
--- on and before that one is in the set.
+-- `facts::any_from` meets its contract. The loop's invariant: number i * 8 + skip comes next, and no number from
+-- `from` on and before that one is in the set.
 use Prim.Native.Nat.{ℕ, _+_, _-_, _*_, _/_, _^_, _≤_, _<_}
 use mathlib.Core.Path.{_≡_}
 use mathlib.Core.Bool.{false, true≢false, false≢true}
@@ -14,11 +14,11 @@ use Rattle.facts.proofs.any_from.Statement.{statement}
 use Rattle.facts.proofs.any_from.Tie as tie
 
 abbrev Inv-loop : tie.InvT-loop
-Inv-loop set width from bytes i₀ skip₀ i skip =
+Inv-loop set width from end i₀ skip₀ i skip =
     (skip < 8) × (from ≤ i * 8 + skip) × ((g : ℕ) → from ≤ g → g < i * 8 + skip → within width set g ≡ false)
 
 abbrev μ-loop : tie.MeasureT-loop
-μ-loop set width from bytes i₀ skip₀ i skip = bytes - i
+μ-loop set width from end i₀ skip₀ i skip = end - i
 
 loop-holds : tie.Need-loop-holds Inv-loop μ-loop
 loop-holds c = (omega arith, omega arith, λ g p q. absurd (omega arith))
@@ -28,8 +28,8 @@ returns c =
     let args = c .before .before .before .before .before .before .args in
     let at = c .before .before .before .loop in
     let byte : getD (args .set .now) (at .i) 0 < 256 = omega (arith, c .before .shared-slice-known2 .given (at .i)) in
-    let (g, from, t) =
-    some-from (args .width) (args .set .now) (at .i) (at .skip) (omega arith) byte (at .inv .0) (c .if1 .taken) in
+    let some = some-from (args .width) (args .set .now) (at .i) (at .skip) (omega arith) byte in
+    let (g, from, t) = some (at .inv .0) (c .if1 .taken) in
     record { none = λ e. absurd (true≢false e); some = λ _. (g, omega arith, t) }
 
 loop-again : tie.Need-loop-again Inv-loop μ-loop

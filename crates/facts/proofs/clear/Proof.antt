@@ -13,10 +13,10 @@ use Rattle.facts.proofs.clear.Statement.{statement}
 use Rattle.facts.proofs.clear.Tie as tie
 
 abbrev Inv-loop : tie.InvT-loop
-Inv-loop set₀ width bytes i₀ set i = (i ≤ bytes) × Kept width set₀ set × ((k : ℕ) → k < i → getD set k 0 ≡ 0)
+Inv-loop set₀ width all i₀ set i = (i ≤ all) × Kept width set₀ set × ((k : ℕ) → k < i → getD set k 0 ≡ 0)
 
 abbrev μ-loop : tie.MeasureT-loop
-μ-loop set₀ width bytes i₀ set i = bytes - i
+μ-loop set₀ width all i₀ set i = all - i
 
 loop-holds : tie.Need-loop-holds Inv-loop μ-loop
 loop-holds c = (omega arith, kept-same _, λ k h. absurd (omega arith))

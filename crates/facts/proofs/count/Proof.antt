@@ -35,7 +35,7 @@ cast-found-2 c = omega (arith, ones-le 8 (byte c) (byte-lt c))
 add-found : tie.Need-add-found Inv-loop μ-loop
 add-found c =
     let args = c .before .before .before .before .before .args in
-    let all = size-le (within (args .width) (args .set .now)) (c .before .before .loop .i * 8) in
+    let most = size-le (within (args .width) (args .set .now)) (c .before .before .loop .i * 8) in
     omega (arith, ones-le 8 (byte c) (byte-lt c))
 
 loop-again : tie.Need-loop-again Inv-loop μ-loop

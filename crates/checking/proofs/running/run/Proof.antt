@@ -1,59 +1,57 @@
--- `run` meets its contract: it begins with the initial state and its rounds, and the search and the verdict do the rest.
-use mathlib.Core.Path.{sym, _∙_, subst}
-use mathlib.Core.List.{List}
+-- `running::run` meets its contract: the initial state, the steps, the end, and the verdict of it.
 use Prim.Native.Nat.{ℕ}
+use mathlib.Core.Path.{_≡_, sym, ap, _∙_, subst}
+use mathlib.Core.List.{List}
 use native.Mathlib.Omega.{arith}
-use denote.Ref.{now}
+use Rattle.sets.specs.Sets.{listed}
+use Rattle.records.specs.Words.{words}
+use Rattle.facts.proofs.Laws.{kept-trans}
+use Rattle.files.specs.Files.{modelOf}
+use Rattle.files.specs.Known.{Known}
+use Rattle.files.proofs.Lists.{initial-known}
+use Rattle.files.proofs.Traces.{pair-shape}
+use Rattle.checking.proofs.Ends.{steps-here, left-from, held-is}
 use borrow.Author.Needs.{needs}
-use Rattle.lists.specs.Lists.{AllCut}
-use Rattle.records.specs.declared.Kind.the-variants.{Clause}
-use Rattle.files.specs.Files.{clausesIn}
-use Rattle.files.specs.Answers.{Shaped}
-use Rattle.closing.specs.Closing.{Bounded}
-use Rattle.checking.specs.Stepping.{Known}
-use Rattle.checking.proofs.Searching.{begun, left-from}
-use Rattle.checking.proofs.Fine
 use Rattle.checking.proofs.running.run.Statement.{statement}
 use Rattle.checking.proofs.running.run.Tie as tie
 
-abbrev model : tie.Start → List ℕ
-model s = now (s .args .model)
+abbrev start : tie.After-section → tie.Start
+start c = c .before .before .before .before .before
 
-abbrev trace : tie.Start → List ℕ
-trace s = now (s .args .trace)
+abbrev begun : tie.After-search → tie.After-begin
+begun c = c .before .before .before .before .before
 
-shaped : (s : tie.Start) → Shaped (model s) (s .args .layout)
-shaped s = Fine.shaped-model (model s) (trace s) (s .pre .fine) (s .args .layout) (s .pre .layout)
+abbrev found-of : tie.After-finish → tie.After-search
+found-of c = c .before .before .before .before .before .before .before
 
-initial-requires : tie.Need-initial-requires
-initial-requires c κs =
-    shaped (c .before .before .before .before)
+section-requires : tie.Need-section-requires
+section-requires c κs = pair-shape _ _ (c .before .before .before .before .pre .fine)
 
 begin-requires : tie.Need-begin-requires
-begin-requires c κs =
-    let s = c .before .before .before .before .before .before in
-    (subst Known (sym (c .before .initial .ensures)) (Fine.initial-known (model s) (trace s) (s .pre .fine)), s .pre .room)
-
-clauses-requires : tie.Need-clauses-requires
-clauses-requires c κs =
-    shaped (c .before .before .before .before .before .before .before .before .before)
-
-close-judged-requires : tie.Need-close-judged-requires
-close-judged-requires c κs =
-    let s = c .before .before .before .before .before .before .before .before .before .before .before .before in
-    let clauses-is = sym (c .before .before .clauses .ensures) in (
-      subst (AllCut Clause) clauses-is (Fine.clauses-cut (model s) (trace s) (s .pre .fine)),
-      subst (λ (l : List ℕ). Bounded (clausesIn l)) clauses-is (Fine.clauses-bounded (model s) (trace s) (s .pre .fine)),
-      s .pre .entries,
-    )
+begin-requires c κs = (subst Known (sym (c .before .section .ensures)) (initial-known _ (pair-shape _ _ (start (c .before) .pre .fine))), start (c .before) .pre .room)
 
 search-requires : tie.Need-search-requires
+unfolding modelOf
 search-requires c κs =
-    let s = c .before .before .before .before .before .before .before .before .before .before .before .before .before .before .before .before .before in
-    let began = c .before .before .before .before .before .before .before .before .before .before .begin .ensures in
-    let closed = c .before .before .before .before .close-judged .ensures in (
-      record { fine = s .pre .fine; layout = s .pre .layout; room = omega (arith, began .kept .as-long, s .pre .room); entries = omega (arith, closed .1 .as-long, s .pre .entries) },
-      begun (model s) _ _ _ _ _ _ (c .before .before .before .before .before .before .before .before .before .before .before .before .initial .ensures) (c .before .before .before .before .before .before .before .clauses .ensures) (began .facts) (closed .0) (closed .1),
+    let b = c .before .before .before .before in
+    let s = start (b .before .before) in
+    let began = b .begin .ensures in (
+      record { fine = s .pre .fine; room = omega (arith, began .kept .as-long, s .pre .room); entries = s .pre .entries },
+      λ g. began .facts g ∙ ap (λ (l : List ℕ). listed (words l) g) (b .before .before .section .ensures),
+    )
+
+finish-requires : tie.Need-finish-requires
+finish-requires c κs =
+    let found = c .before .before .before .before .before .before in
+    let b = begun found in
+    let s = start (b .before .before) in
+    let led = found .search .ensures in (
+      record {
+        fine = s .pre .fine;
+        room = omega (arith, led .kept .as-long, b .begin .ensures .kept .as-long, s .pre .room);
+        entries = omega (arith, led .as-long, s .pre .entries);
+      },
+      steps-here _ _ led,
     )
 
 count-requires : tie.Need-count-requires
@@ -61,39 +59,42 @@ count-requires c κs = search needs
 
 verdict-requires : tie.Need-verdict-requires
 verdict-requires c κs =
-    let s = c .before .before .before .before .before .before .before .before .before .before .before .before .before .before .before .before .before .before .before .before .before .before .before .before in
-    let found = c .before .before .before .before .before .before .search .ensures in (
+    let f = c .before .before .before .before in
+    let s = start (begun (found-of f) .before .before) in
+    let ended = f .finish .ensures in (
       s .pre .fine,
-      s .pre .layout,
       record {
-        number = found .ends .number;
-        step = found .ends .step;
-        fact = found .ends .fact;
-        rounds = found .ends .rounds;
-        held = found .ends .held ∙ sym (c .count .ensures ∙ Fine.count-is (model s) (trace s) (s .pre .fine) _ (found .left .facts));
+        within = ended .within;
+        ending = ended .ending;
+        step = ended .step;
+        rounds = ended .rounds;
+        held-is = held-is _ _ (pair-shape _ _ (s .pre .fine)) _ (ended .left .facts) (c .count .ensures);
       },
     )
 
 same-length : tie.Need-same-length
-same-length c = search needs
+same-length c =
+    let f = c .before .before .before .before .before in
+    found-of f .search .ensures .kept .as-long ∙ begun (found-of f) .begin .ensures .kept .as-long
 
 same-length-2 : tie.Need-same-length-2
 same-length-2 c = search needs
 
 returns : tie.Need-returns
 returns c =
-    let closed = c .before .before .before .before .before .before .before .before .before .before .before .before .close-judged .ensures .1 in
-    (c .verdict .ensures, left-from (c .before .before .before .before .before .before .before .before .before .before .before .before .before .before .before .before .before .before .begin .ensures .kept) (closed .as-long) (closed .beyond) (c .before .before .before .before .before .before .before .search .ensures .left))
+    let f = c .before .before .before .before .before in
+    let led = found-of f .search .ensures in
+    let kept = kept-trans (begun (found-of f) .begin .ensures .kept) (led .kept) in
+    (c .verdict .ensures, left-from kept (led .as-long) (led .beyond) (f .finish .ensures .left))
 
 pub run-spec : {M : Type 1} → statement M
 run-spec =
     tie.close
     (tie.spec
-    initial-requires
+    section-requires
     begin-requires
-    clauses-requires
-    close-judged-requires
     search-requires
+    finish-requires
     count-requires
     verdict-requires
     same-length

@@ -1,60 +1,51 @@
--- `search` meets its contract: at the head of the outer loop the buffers hold the state reached and the outcome is that of the run from there on (`On`); along
--- P and N the first condition not met is one of those still ahead (`Walk`).
-use Prim.Native.Nat.{ℕ, _-_, _%_, _≤_, _<_}
+-- `running::search` meets its contract: at the head of the outer loop the buffers hold the state reached (`On`); along the conditions of a
+-- step's rule the first unmet one is among those still ahead (`Looking`).
+use Rattle.checking.specs.Running.{unmetOf}
+use Prim.Native.Nat.{ℕ, _+_, _-_, _*_, _/_, _≤_, _<_}
 use mathlib.Core.Path.{_≡_, refl, sym, ap, _∙_, subst}
-use mathlib.Core.Bool.{not}
+use mathlib.Core.List.{List, []}
 use mathlib.Core.Option.{Option, none, some}
 use native.Mathlib.Omega.{arith}
-use borrow.Author.Tests.{eq-eqb, ne-eqb, lt-ltb}
+use borrow.Author.Tests.{not-true, not-false}
 use borrow.Author.Needs.{needs}
 use denote.Ref.{now}
-use mathlib.Core.List.{List}
-use lib.ListN.{length, getD}
-use Rattle.meaning.specs.Model.{Model, Trace, Clause as Clauses, Rule as RuleOf, ruleOf}
-use Rattle.meaning.specs.Rounds.{rounds}
-use Rattle.records.specs.Words.{words}
-use Rattle.records.specs.Records.{listOf}
-use Rattle.records.specs.declared.Kind.{Kind}
-use Rattle.records.specs.declared.Kind.the-variants.{Clause, Rule}
-use Rattle.sets.specs.Sets.{_∈_}
-use Rattle.meaning.specs.Run.{find, after}
+use lib.Dec.{lit<}
+use lib.ListN.{length, getD, drop}
+use Rattle.meaning.specs.Model.{Rule, ruleOf}
+use Rattle.meaning.specs.Run.{Condition, unmet}
 use Rattle.facts.specs.Facts.{members}
-use Rattle.lists.specs.Lists.{Cut, AllCut}
-use Rattle.records.proofs.Words.{even-length}
-use Rattle.files.specs.Files.{section, modelOf, traceOf, pairFault, clausesIn, ruleIn}
-use Rattle.closing.specs.Closing.{Filled, Bounded}
-use Rattle.checking.specs.Stepping.{Known}
-use Rattle.checking.specs.Running.{asked, kindAt}
-use Rattle.checking.proofs.Conditions.{outside, unmet-P, unmet-N}
-use Rattle.checking.proofs.Searching.{two-lists, Walk, walk-start, walk-end, walk-fits, walk-known, walk-hit, walk-next, On, on-start, on-next, on-unmet, on-met}
-use Rattle.checking.proofs.Runs.{Unmet}
-use Rattle.checking.proofs.Fine
+use Rattle.records.specs.Words.{word, words}
+use Rattle.records.specs.Records.{records}
+use Rattle.records.specs.declared.Kind.the-variants as kind
+use Rattle.lists.specs.Lists.{Cut, ListBytes, listCount}
+use Rattle.sections.specs.declared.Role.the-variants.{Rules}
+use Rattle.files.specs.Files.{pairFault, shapeFault, modelOf, traceOf, entriesOf, sectionOf}
+use Rattle.files.specs.Known.{Known}
+use Rattle.files.proofs.Lists.{rule-there, rule-record, rule-known, rule-P, rule-N, rule-A}
+use Rattle.files.proofs.Traces.{pair-shape, pair-fits, pair-entries, pair-few, pair-step, pair-step-known}
+use Rattle.closing.specs.Closing.{numbered, ClosesUnder}
+use Rattle.checking.proofs.Looking.{asks, asks-length, asks-known, Looking, looking-start, looking-hit, looking-next, looking-end}
+use Rattle.checking.proofs.Stepwise.{closure-shown, rounds-few, asked, On, on-start, on-fired, on-stop, on-end}
 use Rattle.checking.proofs.running.search.Statement.{statement}
 use Rattle.checking.proofs.running.search.Tie as tie
 
 abbrev Inv-loop : tie.InvT-loop
-Inv-loop model trace layout first state table clauses steps rounds step fact₀ «record» kind p at₀ fact at = (fact ≡ 65535) × Walk (outside table) p at
+Inv-loop model trace state table entries steps fired rounds rule p n count i₀ i = Looking p n (numbered table) i
 
 abbrev μ-loop : tie.MeasureT-loop
-μ-loop model trace layout first state table clauses steps rounds step fact₀ «record» kind p at₀ fact at = length p - at
-
-abbrev Inv-loop2 : tie.InvT-loop2
-Inv-loop2 model trace layout first state table clauses steps rounds step fact₀ «record» at₀ n fact at = (fact ≡ 65535) × Walk (λ f. not (outside table f)) n at
-
-abbrev μ-loop2 : tie.MeasureT-loop2
-μ-loop2 model trace layout first state table clauses steps rounds step fact₀ «record» at₀ n fact at = length n - at
+μ-loop model trace state table entries steps fired rounds rule p n count i₀ i = count - i
 
 abbrev Inv-search : tie.InvT-search
-Inv-search model trace layout first state₀ table₀ clauses steps rounds₀ step₀ fact₀ state table rounds step fact = (fact ≡ 65535) × On model trace state₀ table₀ state table rounds step
+Inv-search model trace state₀ table₀ entries steps fired₀ rounds₀ state table fired rounds = On model trace state₀ table₀ state table fired rounds
 
 abbrev μ-search : tie.MeasureT-search
-μ-search model trace layout first state₀ table₀ clauses steps rounds₀ step₀ fact₀ state table rounds step fact = steps - step
+μ-search model trace state₀ table₀ entries steps fired₀ rounds₀ state table fired rounds = steps - fired
 
--- ---- what is known at a step
+-- ---- what is known before a step
 
-module _ (s : tie.At-search Inv-loop μ-loop Inv-loop2 μ-loop2 Inv-search μ-search) where
-  abbrev start : tie.Start Inv-loop μ-loop Inv-loop2 μ-loop2 Inv-search μ-search
-  start = s .before .before .before .before .before .before .before
+module _ (s : tie.At-search Inv-loop μ-loop Inv-search μ-search) where
+  abbrev start : tie.Start Inv-loop μ-loop Inv-search μ-search
+  start = s .before .before .before .before .before .before
 
   abbrev model : List ℕ
   model = now (start .args .model)
@@ -62,369 +53,294 @@ module _ (s : tie.At-search Inv-loop μ-loop Inv-loop2 μ-loop2 Inv-search μ-se
   abbrev trace : List ℕ
   trace = now (start .args .trace)
 
-  abbrev M : Model
-  M = modelOf model
+  abbrev ks : List ℕ
+  ks = traceOf trace .steps
 
-  abbrev Tr : Trace
-  Tr = traceOf trace
-
-  abbrev fine : pairFault model trace ≡ none
+  fine : pairFault model trace ≡ none
   fine = start .pre .0 .fine
 
-  steps-is : s .before .steps-of .result ≡ length (Tr .steps)
-  steps-is = omega (arith, s .before .steps-of .ensures, Fine.trace-size model trace fine)
+  shape : shapeFault model ≡ none
+  shape = pair-shape model trace fine
 
-  abbrev on : On model trace (now (start .args .state)) (now (start .args .table)) (s .search .state) (s .search .table) (s .search .rounds) (s .search .step)
-  on = s .search .inv .1
+  abbrev on : On model trace (now (start .args .state)) (now (start .args .table)) (s .search .state) (s .search .table) (s .search .fired) (s .search .rounds)
+  on = s .search .inv
 
-  entries : 4096 ≤ length (s .search .table)
-  entries = omega (arith, on .filled .as-long, start .pre .0 .entries)
+  few-steps : length ks ≤ 1024
+  few-steps = pair-few model trace fine
 
--- the clauses at hand are the model's
-module _ (s : tie.At-search Inv-loop μ-loop Inv-loop2 μ-loop2 Inv-search μ-search) where
-  section-is : now (s .before .before .clauses .result) ≡ section (model s) 2
-  section-is = s .before .before .clauses .ensures
+  entries-size : length (now (s .before .entries .result)) ≡ 2 + 2 * length ks
+  entries-size = ap length (s .before .entries .ensures) ∙ pair-entries model trace fine
 
-  clauses-is : clausesIn (now (s .before .before .clauses .result)) ≡ M s .clauses
-  unfolding modelOf
-  clauses-is = ap clausesIn section-is
+  long : 4096 ≤ length (s .search .table)
+  long = omega (arith, on .as-long, start .pre .0 .entries)
 
-module _ (k : tie.After-kind-at Inv-loop μ-loop Inv-loop2 μ-loop2 Inv-search μ-search) where
-  abbrev at-kind : tie.At-search Inv-loop μ-loop Inv-loop2 μ-loop2 Inv-search μ-search
-  at-kind = k .before .before
+  room : 512 ≤ length (s .search .state)
+  room = omega (arith, on .kept .as-long, start .pre .0 .room)
 
-  kind-is : k .kind-at .result ≡ kindAt (at-kind .search .step) (length (Tr at-kind .steps))
-  kind-is = k .kind-at .ensures ∙ ap (kindAt (at-kind .search .step)) (steps-is at-kind)
+-- ---- the state is closed
 
-  cut-is : Cut (k .kind-at .result) (now (k .before .asked .result))
-  cut-is = rw kind-is (k .before .asked .ensures .cut)
+module _ (c : tie.After-close-judged Inv-loop μ-loop Inv-search μ-search) where
+  abbrev at-closing : tie.At-search Inv-loop μ-loop Inv-search μ-search
+  at-closing = c .before .before .before .before
 
-module _ (l : tie.After-list-of Inv-loop μ-loop Inv-loop2 μ-loop2 Inv-search μ-search) where
-  abbrev at-P : tie.At-search Inv-loop μ-loop Inv-loop2 μ-loop2 Inv-search μ-search
-  at-P = l .before .before .before
+  abbrev table-of : List ℕ
+  table-of = c .close-judged .last .1 .1 .0
 
-  abbrev list-P : List ℕ
-  list-P = now (l .list-of .result)
+  closed : ClosesUnder (modelOf (model at-closing) .clauses) (at-closing .search .state) (at-closing .search .table) table-of (c .close-judged .result)
+  closed = c .close-judged .ensures
 
-  words-P : words list-P ≡ asked (M at-P) (Tr at-P) (at-P .search .step) .P
-  words-P =
-      l .list-of .ensures .facts
-      ∙ ap (λ (K : Kind). listOf K (now (l .before .before .asked .result)) 0) (kind-is (l .before))
-      ∙ l .before .before .asked .ensures .P
+  few-more : c .close-judged .result ≤ 4096
+  few-more = omega (arith, closed .number, rounds-few (model at-closing) (shape at-closing) (members (at-closing .search .state)))
 
-  known-P : Known list-P
-  unfolding Known
-  known-P f i = Fine.asked-P (model at-P) (trace at-P) (fine at-P) (at-P .search .step) f (rw words-P at i)
+  step-there : at-closing .search .fired < length (ks at-closing)
+  step-there = omega (arith, c .before .before .before .if1 .left, entries-size at-closing)
 
-  pairs-P : length list-P % 2 ≡ 0
-  pairs-P = even-length _ (l .list-of .ensures .even)
+-- ---- the step's rule
 
-module _ (l : tie.After-list-of2 Inv-loop μ-loop Inv-loop2 μ-loop2 Inv-search μ-search) where
-  abbrev at-N : tie.At-search Inv-loop μ-loop Inv-loop2 μ-loop2 Inv-search μ-search
-  at-N = l .before .before .before .before .before .before
+module _ (c : tie.After-word-at Inv-loop μ-loop Inv-search μ-search) where
+  abbrev closing-of : tie.After-close-judged Inv-loop μ-loop Inv-search μ-search
+  closing-of = c .before .before .before
 
-  abbrev list-N : List ℕ
-  list-N = now (l .list-of2 .result)
+  abbrev at-rule : tie.At-search Inv-loop μ-loop Inv-search μ-search
+  at-rule = at-closing closing-of
 
-  words-N : words list-N ≡ asked (M at-N) (Tr at-N) (at-N .search .step) .N
-  words-N =
-      l .list-of2 .ensures .facts
-      ∙ ap (λ (K : Kind). listOf K (now (l .before .before .before .before .before .asked .result)) 1) (kind-is (l .before .before .before .before))
-      ∙ l .before .before .before .before .before .asked .ensures .N
+  number-is : c .word-at .result ≡ getD (ks at-rule) (at-rule .search .fired) 0
+  number-is =
+      c .word-at .ensures
+      ∙ ap (λ (l : List ℕ). word (drop (2 + 2 * at-rule .search .fired) l)) (at-rule .before .entries .ensures)
+      ∙ sym (pair-step (model at-rule) (trace at-rule) (fine at-rule) (at-rule .search .fired) (step-there closing-of))
 
-  known-N : Known list-N
-  unfolding Known
-  known-N f i = Fine.asked-N (model at-N) (trace at-N) (fine at-N) (at-N .search .step) f (rw words-N at i)
+  known-rule : c .word-at .result < length (modelOf (model at-rule) .rules)
+  known-rule =
+      subst (λ k. k < length (modelOf (model at-rule) .rules)) (sym number-is)
+      (pair-step-known (model at-rule) (trace at-rule) (fine at-rule) (at-rule .search .fired) (step-there closing-of))
 
-  pairs-N : length list-N % 2 ≡ 0
-  pairs-N = even-length _ (l .list-of2 .ensures .even)
+module _ (c : tie.After-record Inv-loop μ-loop Inv-search μ-search) where
+  cut-of : Cut kind.Rule (now (c .record .result))
+  cut-of = rw (c .record .ensures) (rule-record _ (shape (at-rule (c .before))) (known-rule (c .before)))
 
-  -- P has none that is not met
-  none-P : find (outside (at-N .search .table)) (asked (M at-N) (Tr at-N) (at-N .search .step) .P) ≡ none
-  none-P =
-      let loop = l .before .before in
-      rw (words-P (loop .before)) at (walk-end _ (list-P (loop .before)) (loop .loop .at) (pairs-P (loop .before)) (loop .loop .inv .1) (l .before .loop-test .left))
+  -- a list of the rule's record, as a list of the model's rule
+  list-is : (j : ℕ) {bytes : List ℕ} → ListBytes kind.Rule (now (c .record .result)) j bytes
+      → ListBytes kind.Rule (getD (records (sectionOf (model (at-rule (c .before))) Rules)) (c .before .word-at .result) []) j bytes
+  list-is j {bytes} l = subst (λ (r : List ℕ). ListBytes kind.Rule r j bytes) (c .record .ensures) l
 
--- the first condition not met at a step, from what the table says
-module _ (s : tie.At-search Inv-loop μ-loop Inv-loop2 μ-loop2 Inv-search μ-search) where
-  abbrev UnmetHere : Option ℕ → Type 0
-  UnmetHere f = Unmet (M s) (Tr s) (members (s .search .state)) (s .search .step) f
+  known-list : (j : ℕ) {bytes : List ℕ} → ListBytes kind.Rule (now (c .record .result)) j bytes → Known bytes
+  known-list j {bytes} l = rule-known _ (shape (at-rule (c .before))) (known-rule (c .before)) j bytes (list-is j l)
 
-  known-asked-P : (f : ℕ) → f ∈ asked (M s) (Tr s) (s .search .step) .P → f < 4096
-  known-asked-P = Fine.asked-P (model s) (trace s) (fine s) (s .search .step)
+module _ (c : tie.After-list-of2 Inv-loop μ-loop Inv-search μ-search) where
+  abbrev record-of : tie.After-record Inv-loop μ-loop Inv-search μ-search
+  record-of = c .before .before
 
-  known-asked-N : (f : ℕ) → f ∈ asked (M s) (Tr s) (s .search .step) .N → f < 4096
-  known-asked-N = Fine.asked-N (model s) (trace s) (fine s) (s .search .step)
+  abbrev P : List ℕ
+  P = now (c .before .list-of .result)
 
-  by-P : (f : ℕ) → find (outside (s .search .table)) (asked (M s) (Tr s) (s .search .step) .P) ≡ some f → UnmetHere (some f)
-  by-P = unmet-P _ _ (on s .filled) (Fine.few-clauses (model s) (trace s) (fine s)) _ _ known-asked-P known-asked-N
+  abbrev N : List ℕ
+  N = now (c .list-of2 .result)
 
-  by-N : (o : Option ℕ) → find (outside (s .search .table)) (asked (M s) (Tr s) (s .search .step) .P) ≡ none
-      → find (λ f. not (outside (s .search .table) f)) (asked (M s) (Tr s) (s .search .step) .N) ≡ o → UnmetHere o
-  by-N = unmet-N _ _ (on s .filled) (Fine.few-clauses (model s) (trace s) (fine s)) _ _ known-asked-P known-asked-N
+  known-P : Known P
+  known-P = known-list record-of 0 (c .before .list-of .ensures)
 
--- the fact at hand, along P and along N
-module _ (w : tie.After-word-at Inv-loop μ-loop Inv-loop2 μ-loop2 Inv-search μ-search) where
-  abbrev list-at : tie.After-list-of Inv-loop μ-loop Inv-loop2 μ-loop2 Inv-search μ-search
-  list-at = w .before .before .before
+  known-N : Known N
+  known-N = known-list record-of 1 (c .list-of2 .ensures)
 
-  small-P : w .word-at .result < 4096
-  small-P = omega (arith, w .word-at .ensures, walk-known _ (list-P list-at) (w .before .before .loop .at) (pairs-P list-at) (w .before .before .loop .inv .1) (w .before .loop-test .taken))
+  table-long : 4096 ≤ length (table-of (closing-of (record-of .before)))
+  table-long =
+      let k = closing-of (record-of .before) in
+      omega (arith, closed k .filled .as-long, long (at-closing k))
 
-module _ (w : tie.After-word-at2 Inv-loop μ-loop Inv-loop2 μ-loop2 Inv-search μ-search) where
-  abbrev list-at2 : tie.After-list-of2 Inv-loop μ-loop Inv-loop2 μ-loop2 Inv-search μ-search
-  list-at2 = w .before .before .before
+module _ (c : tie.In-loop Inv-loop μ-loop Inv-search μ-search) where
+  abbrev lists : tie.After-list-of2 Inv-loop μ-loop Inv-search μ-search
+  lists = c .before .before .before
 
-  small-N : w .word-at2 .result < 4096
-  small-N = omega (arith, w .word-at2 .ensures, walk-known _ (list-N list-at2) (w .before .before .loop2 .at) (pairs-N list-at2) (w .before .before .loop2 .inv .1) (w .before .loop2-test .taken))
+  below : (c .before .loop .i < length (P lists) / 2 + length (N lists) / 2) × (c .before .loop .i < length (asks (P lists) (N lists)))
+  below =
+      let there : c .before .loop .i < length (P lists) / 2 + length (N lists) / 2 = omega (arith, c .before .before .count .ensures, c .loop-test .taken) in
+      (there, rw (asks-length (P lists) (N lists)) there)
 
--- after P and N nothing is left that is not met
-module _ (l : tie.After-loop2 Inv-loop μ-loop Inv-loop2 μ-loop2 Inv-search μ-search) where
-  abbrev lists : tie.After-list-of2 Inv-loop μ-loop Inv-loop2 μ-loop2 Inv-search μ-search
-  lists = l .before .before
+module _ (c : tie.After-list-of3 Inv-loop μ-loop Inv-search μ-search) where
+  abbrev lists-3 : tie.After-list-of2 Inv-loop μ-loop Inv-search μ-search
+  lists-3 = c .before .before .before .before
 
-  abbrev here : tie.At-search Inv-loop μ-loop Inv-loop2 μ-loop2 Inv-search μ-search
-  here = at-N lists
+  known-A : Known (now (c .list-of3 .result))
+  known-A = known-list (record-of lists-3) 2 (c .list-of3 .ensures)
 
-  all-met : UnmetHere here none
-  all-met =
-      by-N here none (none-P lists)
-      (rw (words-N lists) at (walk-end _ (list-N lists) (l .before .loop2 .at) (pairs-N lists) (l .before .loop2 .inv .1) (l .loop2-test .left)))
+-- the conditions at hand are those of the step's rule, in the closure that the table shows
+module _ (c : tie.After-list-of2 Inv-loop μ-loop Inv-search μ-search) where
+  abbrev word-of : tie.After-word-at Inv-loop μ-loop Inv-search μ-search
+  word-of = record-of c .before
 
--- the step's rule fires
-module _ (e : tie.Else3 Inv-loop μ-loop Inv-loop2 μ-loop2 Inv-search μ-search) where
-  abbrev asked-at : tie.After-asked Inv-loop μ-loop Inv-loop2 μ-loop2 Inv-search μ-search
-  asked-at = lists (e .before) .before .before .before .before .before
+  abbrev here : tie.At-search Inv-loop μ-loop Inv-search μ-search
+  here = at-rule word-of
 
-  below : here (e .before) .search .step < length (Tr (here (e .before)) .steps)
-  below = omega (arith, e .if3 .left, steps-is (here (e .before)))
+  -- a list of the rule that the number at hand names is one of the step's rule
+  rule-is : (which : Rule → List ℕ)
+      → which (ruleOf (modelOf (model here)) (word-of .word-at .result)) ≡ which (ruleOf (modelOf (model here)) (getD (ks here) (here .search .fired) 0))
+  rule-is which = ap (λ k. which (ruleOf (modelOf (model here)) k)) (number-is word-of)
 
-  rule-is : ruleIn (now (asked-at .asked .result)) ≡ ruleOf (M (here (e .before))) (getD (Tr (here (e .before)) .steps) (here (e .before) .search .step) 0)
-  rule-is = asked-at .asked .ensures .rule below
+  P-is : words (P c) ≡ ruleOf (modelOf (model here)) (getD (ks here) (here .search .fired) 0) .P
+  P-is = rule-P _ _ (list-is (record-of c) 0 (c .before .list-of .ensures)) ∙ rule-is (λ r. r .P)
 
-  rule-cut : Cut Rule (now (asked-at .asked .result))
-  unfolding kindAt
-  rule-cut = rw (lt-ltb _ _ below) at (asked-at .asked .ensures .cut)
+  N-is : words (N c) ≡ ruleOf (modelOf (model here)) (getD (ks here) (here .search .fired) 0) .N
+  N-is = rule-N _ _ (list-is (record-of c) 1 (c .list-of2 .ensures)) ∙ rule-is (λ r. r .N)
 
-  known-A : (f : ℕ) → f ∈ listOf Rule (now (asked-at .asked .result)) 2 → f < 4096
-  unfolding ruleIn
-  known-A f i =
-      let s = here (e .before) in
-      Fine.added-known (model s) (trace s) (fine s) _ f (subst (λ (r : RuleOf). f ∈ r .A) rule-is i)
-
-  room : 512 ≤ length (here (e .before) .search .state)
-  room = let s = here (e .before) in omega (arith, on s .kept .as-long, start s .pre .0 .room)
-
--- the rounds of the state after the step
-module _ (c : tie.After-slice-known6 Inv-loop μ-loop Inv-loop2 μ-loop2 Inv-search μ-search) where
-  abbrev next-state : List ℕ
-  next-state = c .before .before .before .before .before .before .before .apply .last .1 .0
-
-  abbrev stepped : tie.At-search Inv-loop μ-loop Inv-loop2 μ-loop2 Inv-search μ-search
-  stepped = here (c .before .before .before .before .before .before .before .before .before .before)
-
-  more-is : c .before .before .close-judged .result ≡ rounds (M stepped .clauses) (members next-state)
-  more-is = c .before .before .close-judged .ensures .0 ∙ ap (λ (cs : List Clauses). rounds cs (members next-state)) (clauses-is stepped)
-
-  few-more : c .before .before .close-judged .result ≤ 4096
-  few-more = omega (arith, more-is, Fine.rounds-few (model stepped) (trace stepped) (fine stepped) (members next-state))
+  asked-is : (o : Option Condition) → unmet (numbered (table-of (closing-of word-of))) (asks (P c) (N c)) ≡ o
+      → asked (model here) (trace here) (on here) o
+  asked-is o e = rw (P-is, N-is, closure-shown (model here) (shape here) (closed (closing-of word-of))) at e
 
 -- ---- the needs
 
-clauses-requires : tie.Need-clauses-requires Inv-loop μ-loop Inv-loop2 μ-loop2 Inv-search μ-search
-clauses-requires c κs =
-    let start = c .before .before .before .before in
-    Fine.shaped-model (now (start .args .model)) (now (start .args .trace)) (start .pre .0 .fine) (start .args .layout) (start .pre .0 .layout)
+entries-requires : tie.Need-entries-requires Inv-loop μ-loop Inv-search μ-search
+entries-requires c κs =
+    let s = c .before .before .before .before in
+    pair-fits (now (s .args .model)) (now (s .args .trace)) (s .pre .0 .fine)
 
-steps-of-requires : tie.Need-steps-of-requires Inv-loop μ-loop Inv-loop2 μ-loop2 Inv-search μ-search
-steps-of-requires c κs =
-    let start = c .before .before .before .before .before in
-    omega (arith, Fine.trace-size (now (start .args .model)) (now (start .args .trace)) (start .pre .0 .fine))
+sub-steps : tie.Need-sub-steps Inv-loop μ-loop Inv-search μ-search
+sub-steps c =
+    let s = c .before .before .before .before .before in
+    omega (arith, ap length (c .entries .ensures), pair-entries (now (s .args .model)) (now (s .args .trace)) (s .pre .0 .fine))
 
-search-holds : tie.Need-search-holds Inv-loop μ-loop Inv-loop2 μ-loop2 Inv-search μ-search
-search-holds c =
-    let start = c .before .before .before .before .before .before in
-    let m = now (start .args .model) in
-    let t = now (start .args .trace) in
-    let begun = start .pre .1 in (
-      refl,
-      on-start m t (start .args .first) (now (start .args .state)) (now (start .args .table)) begun
-          (omega (arith, begun .rounds, Fine.rounds-few m t (start .pre .0 .fine) (members (now (start .args .state))))),
-    )
+search-holds : tie.Need-search-holds Inv-loop μ-loop Inv-search μ-search
+search-holds c = on-start _ _ _ _ (c .before .before .before .before .before .pre .1)
 
-asked-requires : tie.Need-asked-requires Inv-loop μ-loop Inv-loop2 μ-loop2 Inv-search μ-search
-asked-requires c κs =
-    (start c .pre .0 .fine, start c .pre .0 .layout, steps-is c, omega (arith, steps-is c, on c .within))
+close-judged-requires : tie.Need-close-judged-requires Inv-loop μ-loop Inv-search μ-search
+close-judged-requires c κs = let s = c .before .before .before in (shape s, long s)
 
-kind-at-requires : tie.Need-kind-at-requires Inv-loop μ-loop Inv-loop2 μ-loop2 Inv-search μ-search
-kind-at-requires c κs =
-    search needs
+add-rounds : tie.Need-add-rounds Inv-loop μ-loop Inv-search μ-search
+add-rounds c = let s = at-closing (c .before .before) in omega (arith, on s .bound, on s .within, few-steps s, few-more (c .before .before))
 
-list-of-requires : tie.Need-list-of-requires Inv-loop μ-loop Inv-loop2 μ-loop2 Inv-search μ-search
-list-of-requires c κs =
-    (cut-is c, rw (kind-is c) (omega (arith, two-lists (at-kind c .search .step) (length (Tr (at-kind c) .steps)))))
+mul-word-at : tie.Need-mul-word-at Inv-loop μ-loop Inv-search μ-search
+mul-word-at c = let s = at-closing (c .before .before) in omega (arith, on s .within, few-steps s)
 
-loop-holds : tie.Need-loop-holds Inv-loop μ-loop Inv-loop2 μ-loop2 Inv-search μ-search
-loop-holds c =
-    (c .before .before .before .search .inv .0, walk-start _ (list-P c) (known-P c))
+add-word-at : tie.Need-add-word-at Inv-loop μ-loop Inv-search μ-search
+add-word-at c = let s = at-closing (c .before .before) in omega (arith, on s .within, few-steps s)
 
-word-at-requires : tie.Need-word-at-requires Inv-loop μ-loop Inv-loop2 μ-loop2 Inv-search μ-search
-word-at-requires c κs =
-    walk-fits _ (list-P (c .before .before)) (c .before .loop .at) (pairs-P (c .before .before)) (c .before .loop .inv .1) (c .loop-test .taken)
+word-at-requires : tie.Need-word-at-requires Inv-loop μ-loop Inv-search μ-search
+word-at-requires c κs = let s = at-closing (c .before .before) in omega (arith, step-there (c .before .before), entries-size s)
 
-mul-if1 : tie.Need-mul-if1 Inv-loop μ-loop Inv-loop2 μ-loop2 Inv-search μ-search
-mul-if1 c =
-    omega (arith, small-P c)
+record-requires : tie.Need-record-requires Inv-loop μ-loop Inv-search μ-search
+record-requires c κs = (shape (at-rule c), rule-there _ (known-rule c))
 
-slice-read-if1 : tie.Need-slice-read-if1 Inv-loop μ-loop Inv-loop2 μ-loop2 Inv-search μ-search
-slice-read-if1 c =
-    omega (arith, small-P (c .before), entries (at-P (list-at (c .before))))
+list-of-requires : tie.Need-list-of-requires Inv-loop μ-loop Inv-search μ-search
+unfolding listCount
+list-of-requires c κs = (cut-of c, lit< tt)
 
-add-at : tie.Need-add-at Inv-loop μ-loop Inv-loop2 μ-loop2 Inv-search μ-search
-add-at c =
-    let loop = c .before .before .before .before in
-    omega (arith, walk-fits _ (list-P (loop .before)) (loop .loop .at) (pairs-P (loop .before)) (loop .loop .inv .1) (c .before .before .before .loop-test .taken))
+list-of-requires-2 : tie.Need-list-of-requires-2 Inv-loop μ-loop Inv-search μ-search
+unfolding listCount
+list-of-requires-2 c κs = (cut-of (c .before), lit< tt)
 
-loop-less : tie.Need-loop-less Inv-loop μ-loop Inv-loop2 μ-loop2 Inv-search μ-search
-loop-less c =
-    let loop = c .before .before .before .before in
-    omega (arith, c .before .before .before .loop-test .taken)
+count-requires : tie.Need-count-requires Inv-loop μ-loop Inv-search μ-search
+count-requires c κs = search needs
 
-loop-again : tie.Need-loop-again Inv-loop μ-loop Inv-loop2 μ-loop2 Inv-search μ-search
+loop-holds : tie.Need-loop-holds Inv-loop μ-loop Inv-search μ-search
+loop-holds c = looking-start _ _ _
+
+nth-requires : tie.Need-nth-requires Inv-loop μ-loop Inv-search μ-search
+nth-requires c κs = (known-P (lists c), known-N (lists c), below c .0)
+
+meets-requires : tie.Need-meets-requires Inv-loop μ-loop Inv-search μ-search
+meets-requires c κs =
+    let l = c .before .before in
+    let nth = c .before .nth .ensures in
+    (rw nth (asks-known _ _ _ (known-P (lists l)) (known-N (lists l)) (below l .0)), table-long (lists l))
+
+add-i : tie.Need-add-i Inv-loop μ-loop Inv-search μ-search
+add-i c = omega (arith, below (c .before .before .before .before) .0)
+
+loop-less : tie.Need-loop-less Inv-loop μ-loop Inv-search μ-search
+loop-less c = omega arith
+
+loop-again : tie.Need-loop-again Inv-loop μ-loop Inv-search μ-search
 loop-again c =
-    let loop = c .before .before .before .before in (
-      loop .loop .inv .0,
-      walk-next _ (list-P (loop .before)) (loop .loop .at) (pairs-P (loop .before)) (loop .loop .inv .1) (c .before .before .before .loop-test .taken)
-          (rw (← c .before .before .word-at .ensures) (ne-eqb _ _ (c .if1 .left))),
-    )
+    let l = c .before .before .before .before in
+    let nth = c .before .before .before .nth .ensures in
+    looking-next _ _ (l .before .loop .inv) (below l .1) (rw nth at (sym (c .before .meets .ensures) ∙ not-false _ (c .if2 .left)))
 
-list-of-requires-2 : tie.Need-list-of-requires-2 Inv-loop μ-loop Inv-loop2 μ-loop2 Inv-search μ-search
-list-of-requires-2 c κs =
-    let k = c .before .before .before in
-    (cut-is k, rw (kind-is k) (two-lists (at-kind k .search .step) (length (Tr (at-kind k) .steps))))
+list-of-requires-3 : tie.Need-list-of-requires-3 Inv-loop μ-loop Inv-search μ-search
+unfolding listCount
+list-of-requires-3 c κs = (cut-of (c .before .before .before .before .before), lit< tt)
 
-loop2-holds : tie.Need-loop2-holds Inv-loop μ-loop Inv-loop2 μ-loop2 Inv-search μ-search
-loop2-holds c =
-    (c .before .before .loop .inv .0, walk-start _ (list-N c) (known-N c))
+apply-requires : tie.Need-apply-requires Inv-loop μ-loop Inv-search μ-search
+apply-requires c κs = (known-A (c .before), room (at-rule (c .before .before .before .before .before .before .before .before)))
 
-word-at-requires-2 : tie.Need-word-at-requires-2 Inv-loop μ-loop Inv-loop2 μ-loop2 Inv-search μ-search
-word-at-requires-2 c κs =
-    walk-fits _ (list-N (c .before .before)) (c .before .loop2 .at) (pairs-N (c .before .before)) (c .before .loop2 .inv .1) (c .loop2-test .taken)
+add-fired : tie.Need-add-fired Inv-loop μ-loop Inv-search μ-search
+add-fired c = let l = lists-3 (c .before .before .before .before) in let s = here l in omega (arith, on s .within, few-steps s)
 
-mul-if2 : tie.Need-mul-if2 Inv-loop μ-loop Inv-loop2 μ-loop2 Inv-search μ-search
-mul-if2 c =
-    omega (arith, small-N c)
+search-less : tie.Need-search-less Inv-loop μ-loop Inv-search μ-search
+search-less c = let l = lists-3 (c .before .before .before .before) in omega (arith, step-there (closing-of (word-of l)), entries-size (here l))
 
-slice-read-if2 : tie.Need-slice-read-if2 Inv-loop μ-loop Inv-loop2 μ-loop2 Inv-search μ-search
-slice-read-if2 c =
-    omega (arith, small-N (c .before), entries (at-N (list-at2 (c .before))))
-
-add-at-2 : tie.Need-add-at-2 Inv-loop μ-loop Inv-loop2 μ-loop2 Inv-search μ-search
-add-at-2 c =
-    let loop = c .before .before .before .before in
-    omega (arith, walk-fits _ (list-N (loop .before)) (loop .loop2 .at) (pairs-N (loop .before)) (loop .loop2 .inv .1) (c .before .before .before .loop2-test .taken))
-
-loop2-less : tie.Need-loop2-less Inv-loop μ-loop Inv-loop2 μ-loop2 Inv-search μ-search
-loop2-less c =
-    omega (arith, c .before .before .before .loop2-test .taken)
-
-loop2-again : tie.Need-loop2-again Inv-loop μ-loop Inv-loop2 μ-loop2 Inv-search μ-search
-loop2-again c =
-    let loop = c .before .before .before .before in (
-      loop .loop2 .inv .0,
-      walk-next _ (list-N (loop .before)) (loop .loop2 .at) (pairs-N (loop .before)) (loop .loop2 .inv .1) (c .before .before .before .loop2-test .taken)
-          (rw (← c .before .before .word-at2 .ensures) (ap not (eq-eqb _ _ (c .if2 .left)))),
-    )
-
-apply-requires : tie.Need-apply-requires Inv-loop μ-loop Inv-loop2 μ-loop2 Inv-search μ-search
-apply-requires c κs =
-    let e = c .before in
-    (rule-cut e, known-A e, room e)
-
-close-judged-requires : tie.Need-close-judged-requires Inv-loop μ-loop Inv-loop2 μ-loop2 Inv-search μ-search
-close-judged-requires c κs =
-    let s = here (c .before .before .before .before .before .before .before) in (
-      subst (AllCut Clause) (sym (section-is s)) (Fine.clauses-cut (model s) (trace s) (fine s)),
-      subst (λ (l : List ℕ). Bounded (clausesIn l)) (sym (section-is s)) (Fine.clauses-bounded (model s) (trace s) (fine s)),
-      omega (arith, entries s),
-    )
-
-add-rounds : tie.Need-add-rounds Inv-loop μ-loop Inv-loop2 μ-loop2 Inv-search μ-search
-add-rounds c =
-    let s = here (c .before .before .before .before .before .before .before .before .before .before) in
-    omega (arith, on s .bound, on s .within, Fine.few-steps (model s) (trace s) (fine s), few-more c)
-
-add-step : tie.Need-add-step Inv-loop μ-loop Inv-loop2 μ-loop2 Inv-search μ-search
-add-step c =
-    let s = here (c .before .before .before .before .before .before .before .before .before .before) in
-    omega (arith, on s .within, Fine.few-steps (model s) (trace s) (fine s))
-
-search-less : tie.Need-search-less Inv-loop μ-loop Inv-loop2 μ-loop2 Inv-search μ-search
-search-less c =
-    omega (arith, c .before .before .before .before .before .before .before .before .before .if3 .left)
-
-search-again : tie.Need-search-again Inv-loop μ-loop Inv-loop2 μ-loop2 Inv-search μ-search
+search-again : tie.Need-search-again Inv-loop μ-loop Inv-search μ-search
 search-again c =
-    let e = c .before .before .before .before .before .before .before .before .before in
-    let s = here (e .before) in
-    let applied = c .before .before .before .before .before .before .before .apply .ensures in (
-      e .before .before .loop2 .inv .0,
-      on-next (model s) (trace s) (on s) (below e) (all-met (e .before))
-          (λ g. applied .facts g ∙ ap (λ (r : RuleOf). after r (members (s .search .state)) g) (rule-is e))
-          (applied .kept)
-          (subst (λ (cs : List Clauses). Filled cs (members (next-state c)) (s .search .table) (c .before .before .close-judged .last .1 .1 .0)) (clauses-is s) (c .before .before .close-judged .ensures .1))
-          (more-is c) (few-more c),
-    )
+    let a = c .before .before .before .before in
+    let l = lists-3 a in
+    let k = closing-of (word-of l) in
+    let done = a .before in
+    let none-left = looking-end (P l) (N l) (done .before .loop .inv) (rw (asks-length (P l) (N l)) (omega (arith, done .before .before .count .ensures, done .loop-test .left))) in
+    on-fired (model (here l)) (trace (here l)) (on (here l)) (closed k) (step-there k) (asked-is l none none-left) (few-more k) (P-is l)
+    (rule-A _ _ (list-is (record-of l) 2 (a .list-of3 .ensures)) ∙ rule-is l (λ r. r .A))
+    (c .before .before .apply .ensures)
 
-same-length : tie.Need-same-length Inv-loop μ-loop Inv-loop2 μ-loop2 Inv-search μ-search
-same-length c =
-    on (at-P (list-at (c .before .before))) .kept .as-long
+same-length : tie.Need-same-length Inv-loop μ-loop Inv-search μ-search
+same-length c = on (c .before) .kept .as-long
 
-same-length-2 : tie.Need-same-length-2 Inv-loop μ-loop Inv-loop2 μ-loop2 Inv-search μ-search
-same-length-2 c =
-    on (at-P (list-at (c .before .before))) .filled .as-long
+same-length-2 : tie.Need-same-length-2 Inv-loop μ-loop Inv-search μ-search
+same-length-2 c = on (c .before) .as-long
 
-returns : tie.Need-returns Inv-loop μ-loop Inv-loop2 μ-loop2 Inv-search μ-search
-returns c =
-    let w = c .before .before in
-    let l = list-at w in
-    let s = at-P l in
-    let hit = walk-hit _ (list-P l) (w .before .before .loop .at) (pairs-P l) (w .before .before .loop .inv .1) (w .before .loop-test .taken)
-    (rw (← w .word-at .ensures) (eq-eqb _ _ (c .if1 .taken))) in
-    on-unmet (model s) (trace s) (on s) (w .word-at .result) _ (small-P w) (by-P s (w .word-at .result) (rw (words-P l, ← w .word-at .ensures) at hit)) refl
+returns : tie.Need-returns Inv-loop μ-loop Inv-search μ-search
+unfolding unmetOf
+returns c = on-end _ _ (on (c .before)) (omega (arith, c .if1 .taken, entries-size (c .before))) refl refl refl
 
-same-length-3 : tie.Need-same-length-3 Inv-loop μ-loop Inv-loop2 μ-loop2 Inv-search μ-search
-same-length-3 c =
-    on (at-N (list-at2 (c .before .before))) .kept .as-long
+same-length-3 : tie.Need-same-length-3 Inv-loop μ-loop Inv-search μ-search
+same-length-3 c = on (here (lists (c .before .before .before .before))) .kept .as-long
 
-same-length-4 : tie.Need-same-length-4 Inv-loop μ-loop Inv-loop2 μ-loop2 Inv-search μ-search
+same-length-4 : tie.Need-same-length-4 Inv-loop μ-loop Inv-search μ-search
 same-length-4 c =
-    on (at-N (list-at2 (c .before .before))) .filled .as-long
+    let l = lists (c .before .before .before .before) in
+    closed (closing-of (word-of l)) .filled .as-long ∙ on (here l) .as-long
 
-returns-2 : tie.Need-returns-2 Inv-loop μ-loop Inv-loop2 μ-loop2 Inv-search μ-search
+returns-2 : tie.Need-returns-2 Inv-loop μ-loop Inv-search μ-search
+unfolding unmetOf
 returns-2 c =
-    let w = c .before .before in
-    let l = list-at2 w in
-    let s = at-N l in
-    let hit = walk-hit _ (list-N l) (w .before .before .loop2 .at) (pairs-N l) (w .before .before .loop2 .inv .1) (w .before .loop2-test .taken)
-    (rw (← w .word-at2 .ensures) (ap not (ne-eqb _ _ (c .if2 .taken)))) in
-    on-unmet (model s) (trace s) (on s) (w .word-at2 .result) _ (small-N w) (by-N s (some (w .word-at2 .result)) (none-P l) (rw (words-N l, ← w .word-at2 .ensures) at hit)) refl
-
-same-length-5 : tie.Need-same-length-5 Inv-loop μ-loop Inv-loop2 μ-loop2 Inv-search μ-search
-same-length-5 c =
-    on (here (c .before)) .kept .as-long
-
-same-length-6 : tie.Need-same-length-6 Inv-loop μ-loop Inv-loop2 μ-loop2 Inv-search μ-search
-same-length-6 c =
-    on (here (c .before)) .filled .as-long
-
-returns-3 : tie.Need-returns-3 Inv-loop μ-loop Inv-loop2 μ-loop2 Inv-search μ-search
-returns-3 c =
-    let s = here (c .before) in
-    on-met (model s) (trace s) (on s) _ (omega (arith, c .if3 .taken, steps-is s)) (all-met (c .before))
-    (rw (c .before .before .loop2 .inv .0))
+    let at = c .before .before .before .before in
+    let l = lists at in
+    let k = closing-of (word-of l) in
+    let nth = c .before .before .before .nth .ensures in
+    let hit = looking-hit (P l) (N l) (at .before .loop .inv) (below at .1) (rw nth at (sym (c .before .meets .ensures) ∙ not-true _ (c .if2 .taken))) in
+    on-stop _ _ (on (here l)) (closed k) (step-there k) (asked-is l _ (hit ∙ ap some (sym nth))) refl refl refl (few-more k)
 
 pub search-spec : {M : Type 1} → statement M
 search-spec =
     tie.close
-    (tie.spec Inv-loop μ-loop Inv-loop2 μ-loop2 Inv-search μ-search clauses-requires steps-of-requires search-holds asked-requires kind-at-requires list-of-requires loop-holds word-at-requires mul-if1 slice-read-if1 add-at loop-less loop-again list-of-requires-2 loop2-holds word-at-requires-2 mul-if2 slice-read-if2 add-at-2 loop2-less loop2-again apply-requires close-judged-requires add-rounds add-step search-less search-again same-length same-length-2 returns same-length-3 same-length-4 returns-2 same-length-5 same-length-6 returns-3)
+    (tie.spec
+    Inv-loop
+    μ-loop
+    Inv-search
+    μ-search
+    entries-requires
+    sub-steps
+    search-holds
+    close-judged-requires
+    add-rounds
+    mul-word-at
+    add-word-at
+    word-at-requires
+    record-requires
+    list-of-requires
+    list-of-requires-2
+    count-requires
+    loop-holds
+    nth-requires
+    meets-requires
+    add-i
+    loop-less
+    loop-again
+    list-of-requires-3
+    apply-requires
+    add-fired
+    search-less
+    search-again
+    same-length
+    same-length-2
+    returns
+    same-length-3
+    same-length-4
+    returns-2)

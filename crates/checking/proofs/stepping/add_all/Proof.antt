@@ -11,16 +11,15 @@ use Rattle.sets.specs.Sets.{listed}
 use Rattle.facts.specs.Facts.{members, Kept, room}
 use Rattle.facts.proofs.Laws.{kept-same, kept-trans, room-in}
 use Rattle.records.specs.Words.{word, words}
-use Rattle.checking.specs.Stepping.{Known}
-use Rattle.checking.proofs.Changing.{known-here, done-one, done-all, add-idle, add-twice}
+use Rattle.checking.proofs.Changing.{Below, known-here, done-one, done-all, add-idle, add-twice}
 use Rattle.checking.proofs.stepping.add_all.Statement.{statement}
 use Rattle.checking.proofs.stepping.add_all.Tie as tie
 
 record Inv (list state₀ state : List ℕ) (at : ℕ) : Type 0 where
   within : at ≤ length list
   room : 512 ≤ length state
-  known : Known (drop at list)
-  kept : Kept state₀ state
+  known : Below (drop at list)
+  kept : Kept 512 state₀ state
   facts : (g : ℕ) → (members state g || listed (words (drop at list)) g) ≡ (members state₀ g || listed (words list) g)
 
 abbrev Inv-loop : tie.InvT-loop
@@ -30,7 +29,7 @@ abbrev μ-loop : tie.MeasureT-loop
 μ-loop list state₀ at₀ state at = length list - at
 
 loop-holds : tie.Need-loop-holds Inv-loop μ-loop
-loop-holds c = record { within = omega arith; room = c .before .before .pre .1; known = c .before .before .pre .0; kept = kept-same _; facts = λ g. refl }
+loop-holds c = record { within = omega arith; room = c .before .before .pre .1; known = c .before .before .pre .0 .facts; kept = kept-same _; facts = λ g. refl }
 
 sub-loop : tie.Need-sub-loop Inv-loop μ-loop
 sub-loop c = omega arith
@@ -57,7 +56,7 @@ loop-again c =
     let added = c .before .before .add .ensures in
     let one : (g : ℕ) → members (c .before .before .add .last .0) g ≡ (members (loop .loop .state) g || eqb g (word (drop at list))) =
     λ g. added .set g
-    ∙ rw (room-in (loop .loop .state) (c .before .before .before .word-at .result) (omega (arith, c .before .before .before .word-at .ensures)), ← c .before .before .before .word-at .ensures)
+    ∙ rw (room-in 512 (loop .loop .state) (c .before .before .before .word-at .result) (omega (arith, c .before .before .before .word-at .ensures)), ← c .before .before .before .word-at .ensures)
     (ap (λ (b : Bool). members (loop .loop .state) g || b) (and-true _)) in
     record {
       within = omega arith;

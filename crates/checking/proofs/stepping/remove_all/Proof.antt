@@ -17,7 +17,7 @@ use Rattle.checking.proofs.stepping.remove_all.Tie as tie
 
 record Inv (list state₀ state : List ℕ) (at : ℕ) : Type 0 where
   within : at ≤ length list
-  kept : Kept state₀ state
+  kept : Kept 512 state₀ state
   facts : (g : ℕ) → (members state g && not (listed (words (drop at list)) g)) ≡ (members state₀ g && not (listed (words list) g))
 
 -- what a fact of the list does to a membership

@@ -1,0 +1,132 @@
+-- Laws on the end of a run: what the search over the steps leaves and what is asked of the last state make the outcome.
+use Prim.Native.Nat.{ℕ, _+_, _≤_}
+use mathlib.Core.Path.{_≡_, refl, sym, ap, _∙_, fun-ext}
+use mathlib.Core.List.{List}
+use mathlib.Core.Option.{none, some}
+use native.Mathlib.Omega.{arith}
+use lib.ListN.{length, drop}
+use Rattle.sets.specs.Sets.{Facts, size}
+use Rattle.meaning.specs.Model.{Model}
+use Rattle.meaning.specs.Rounds.{rounds, closure}
+use Rattle.meaning.specs.Run.{Condition, Reached, Outcome, conditions, unmet, asked, ending, outcomeOf, run}
+use Rattle.meaning.specs.Run.Ending.{attack, blocked, notMet}
+use Rattle.meaning.proofs.Runs.{Below, run-below, size-below}
+use Rattle.meaning.specs.Model.{goalOf}
+use Rattle.facts.specs.Facts.{members, Kept}
+use Rattle.facts.proofs.Laws.{kept-same, kept-trans}
+use Rattle.files.specs.Files.{shapeFault, modelOf, traceOf}
+use Rattle.files.proofs.Laws.{facts-bound, initial-below}
+use Rattle.files.proofs.Lists.{added-below}
+use Rattle.closing.specs.Closing.{Filled, numbered, ClosesUnder}
+use Rattle.checking.specs.Verdict.{Lent, outcome, Left}
+use Rattle.checking.specs.Running.{conditionOf, unmetOf, endingOf, reached, counted, StepsTo, askedIn, EndsAs}
+use Rattle.checking.specs.declared.conditions.Condition.the-variants as condition
+use Rattle.checking.specs.declared.conditions.Unmet.the-variants as found
+use Rattle.checking.specs.declared.running.Ending.the-variants as ends
+use Rattle.checking.specs.declared.running.Steps.{Steps}
+use Rattle.checking.specs.declared.running.Ended.{Ended}
+use Rattle.checking.proofs.Stepwise.{closure-shown}
+
+-- ---- what is asked of the last state
+
+module _ (m : Model) (g : ℕ) (X : Facts) where
+  pub asked-met : unmet X (conditions (goalOf m g .P) (goalOf m g .N)) ≡ none → attack ≡ askedIn m g X
+  unfolding askedIn
+  asked-met e = rw (e, askedIn)
+
+  pub asked-unmet : {c : Condition} → unmet X (conditions (goalOf m g .P) (goalOf m g .N)) ≡ some c → notMet c ≡ askedIn m g X
+  unfolding askedIn
+  asked-unmet e = rw (e, askedIn)
+
+-- ---- how the steps ended
+
+module _ (m : Model) (r : Reached) where
+  -- a blocked step
+  ending-blocked : (g : ℕ) {c : Condition} → r .stop ≡ some c → blocked c ≡ ending m g r
+  unfolding ending
+  ending-blocked g e = rw (e, ending)
+
+  counted-blocked : {c : Condition} → r .stop ≡ some c → counted m r ≡ r .earlier + rounds (m .clauses) (r .state .facts)
+  unfolding counted
+  counted-blocked e = rw (e, counted)
+
+  -- none
+  ending-asked : (g : ℕ) → r .stop ≡ none → askedIn m g (closure (m .clauses) (r .state .facts)) ≡ ending m g r
+  unfolding ending asked askedIn
+  ending-asked g e = rw (e, ending)
+
+  counted-all : r .stop ≡ none → counted m r ≡ r .earlier
+  unfolding counted
+  counted-all e = rw (e, counted)
+
+-- ---- the outcome
+
+-- What is left, seen from buffers that the run began with.
+pub left-from : {m : Model} {o : Outcome} {first before after : Lent} → Kept 512 (first .state) (before .state)
+    → length (before .table) ≡ length (first .table) → drop 4096 (before .table) ≡ drop 4096 (first .table)
+    → Left m o before after → Left m o first after
+left-from k n b l = record {
+  facts = l .facts;
+  kept = kept-trans k (l .kept);
+  rounds = record { as-long = l .rounds .as-long ∙ n; entries = l .rounds .entries; beyond = l .rounds .beyond ∙ b };
+}
+
+module _ (m t : List ℕ) where
+  -- the steps' promise holds of the buffers as they are left
+  pub steps-here : {before after : Lent} {r : Steps} → StepsTo m t before after r → StepsTo m t after after r
+  steps-here s = record {
+    fired = s .fired;
+    stop = s .stop;
+    rounds = s .rounds;
+    facts = s .facts;
+    kept = kept-same _;
+    as-long = refl;
+    beyond = refl;
+    filled = λ c e. record { as-long = refl; entries = s .filled c e .entries; beyond = refl };
+    within = s .within;
+    bound = s .bound;
+  }
+
+  module _ {l : Lent} {r : Steps} (s : StepsTo m t l l r) where
+    -- A blocked step ends the run.
+    pub ends-blocked : (c : condition.the-data) → r .stop ≡ found.At c
+        → EndsAs m t l l (record { ending = ends.Blocked c; step = r .fired; rounds = r .rounds })
+    unfolding endingOf outcome run outcomeOf unmetOf reached
+    ends-blocked c e =
+        let stop = sym (s .stop) ∙ ap unmetOf e in
+        record {
+          within = s .within;
+          ending = ending-blocked (modelOf m) (reached m t) (traceOf t .goal) stop;
+          step = s .fired;
+          rounds = s .rounds ∙ counted-blocked (modelOf m) (reached m t) stop;
+          left = record { facts = s .facts; kept = kept-same _; rounds = s .filled _ stop };
+        }
+
+    -- Otherwise what is asked of the last state does.
+    pub ends-asked : shapeFault m ≡ none → {table : List ℕ} {n : ℕ} {e : ends.the-data} → r .stop ≡ found.Nowhere
+        → ClosesUnder (modelOf m .clauses) (l .state) (l .table) table n
+        → endingOf e ≡ askedIn (modelOf m) (traceOf t .goal) (numbered table)
+        → EndsAs m t l (record { state = l .state; table = table }) (record { ending = e; step = r .fired; rounds = r .rounds + n })
+    unfolding outcome run outcomeOf unmetOf reached
+    ends-asked fine {n = n} q closed asks =
+        let stop = sym (s .stop) ∙ ap unmetOf q in
+        let same : members (l .state) ≡ reached m t .state .facts = fun-ext (s .facts) in
+        let shown = closure-shown m fine closed ∙ ap (closure (modelOf m .clauses)) same in
+        record {
+          within = s .within;
+          ending =
+              asks ∙ ap (askedIn (modelOf m) (traceOf t .goal)) shown ∙ ending-asked (modelOf m) (reached m t) (traceOf t .goal) stop;
+          step = s .fired;
+          rounds =
+              ap (λ k. k + n) (s .rounds ∙ counted-all (modelOf m) (reached m t) stop)
+              ∙ ap (λ k. reached m t .earlier + k) (closed .number ∙ ap (rounds (modelOf m .clauses)) same);
+          left = record { facts = s .facts; kept = kept-same _; rounds = rw same at (closed .filled) };
+        }
+
+  -- All bits of the last state are facts below F, so that counting them counts its facts.
+  pub held-is : shapeFault m ≡ none → (state : List ℕ) {held : ℕ} → ((g : ℕ) → members state g ≡ outcome m t .state .facts g)
+      → held ≡ size (members state) 4096 → held ≡ outcome m t .held
+  unfolding outcome run outcomeOf modelOf
+  held-is fine state e h =
+      let below = run-below (modelOf m) (traceOf t) (initial-below m fine) (added-below m fine) in
+      h ∙ ap (λ X. size X 4096) (fun-ext e) ∙ size-below _ _ 4096 (facts-bound m fine) below

@@ -1,0 +1,121 @@
+-- `running::ask` meets its contract: the conditions at hand are those of the trace's attack state.
+use Prim.Native.Nat.{ℕ, _<_}
+use mathlib.Core.Path.{_≡_, sym, ap, _∙_, subst}
+use mathlib.Core.List.{List, []}
+use native.Mathlib.Omega.{arith}
+use denote.Ref.{now}
+use lib.Dec.{lit<}
+use lib.ListN.{length, getD}
+use Rattle.meaning.specs.Model.{Model, Goal, goalOf}
+use Rattle.meaning.specs.Run.{conditions, unmet}
+use Rattle.records.specs.Words.{word}
+use Rattle.records.specs.Records.{records}
+use Rattle.records.specs.declared.Kind.the-variants as kind
+use Rattle.lists.specs.Lists.{Cut, ListBytes, listCount}
+use Rattle.sections.specs.declared.Role.the-variants.{Goals}
+use Rattle.files.specs.Files.{modelOf, traceOf, sectionOf}
+use Rattle.files.specs.Known.{Known}
+use Rattle.files.proofs.Lists.{goal-there, goal-record, goal-known, goal-P, goal-N}
+use Rattle.files.proofs.Traces.{pair-shape, pair-fits, pair-entries, pair-goal-known, goal-entry}
+use Rattle.closing.specs.Closing.{numbered}
+use Rattle.checking.specs.Running.{unmetOf, endingOf}
+use Rattle.checking.proofs.Ends.{asked-met, asked-unmet}
+use borrow.Author.Needs.{needs}
+use Rattle.checking.proofs.running.ask.Statement.{statement}
+use Rattle.checking.proofs.running.ask.Tie as tie
+
+module _ (c : tie.After-word-at) where
+  abbrev start : tie.Start
+  start = c .before .before .before .before .before
+
+  abbrev M : Model
+  M = modelOf (now (start .args .model))
+
+  abbrev goal : ℕ
+  goal = traceOf (now (start .args .trace)) .goal
+
+  number-is : c .word-at .result ≡ goal
+  number-is = c .word-at .ensures ∙ ap word (c .before .entries .ensures) ∙ sym (goal-entry _)
+
+  known-goal : c .word-at .result < length (M .goals)
+  known-goal = subst (λ g. g < length (M .goals)) (sym number-is) (pair-goal-known _ _ (start .pre .0))
+
+module _ (c : tie.After-record) where
+  cut-of : Cut kind.Goal (now (c .record .result))
+  cut-of = rw (c .record .ensures) (goal-record _ (pair-shape _ _ (start (c .before) .pre .0)) (known-goal (c .before)))
+
+  -- a list of the record, as a list of the model's attack state
+  list-is : (j : ℕ) {bytes : List ℕ} → ListBytes kind.Goal (now (c .record .result)) j bytes
+      → ListBytes kind.Goal (getD (records (sectionOf (now (start (c .before) .args .model)) Goals)) (c .before .word-at .result) []) j bytes
+  list-is j {bytes} l = subst (λ (r : List ℕ). ListBytes kind.Goal r j bytes) (c .record .ensures) l
+
+  known-list : (j : ℕ) {bytes : List ℕ} → ListBytes kind.Goal (now (c .record .result)) j bytes → Known bytes
+  known-list j {bytes} l = goal-known _ (pair-shape _ _ (start (c .before) .pre .0)) (known-goal (c .before)) j bytes (list-is j l)
+
+-- the first unmet condition of the attack state, as the table shows
+unmet-is : (c : tie.After-first-unmet)
+    → let w = c .before .before .before .before in
+    unmetOf (c .first-unmet .result) ≡ unmet (numbered (now (start w .args .table))) (conditions (goalOf (M w) (goal w) .P) (goalOf (M w) (goal w) .N))
+unmet-is c =
+    let l = c .before in
+    let r = l .before .before in
+    let at : (which : Goal → List ℕ) → which (goalOf (M (r .before)) (r .before .word-at .result)) ≡ which (goalOf (M (r .before)) (goal (r .before))) =
+    λ which. ap (λ g. which (goalOf (M (r .before)) g)) (number-is (r .before)) in
+    let P-is = goal-P _ _ (list-is r 0 (l .before .list-of .ensures)) ∙ at (λ g. g .P) in
+    let N-is = goal-N _ _ (list-is r 1 (l .list-of2 .ensures)) ∙ at (λ g. g .N) in
+    rw (P-is, N-is) at (c .first-unmet .ensures)
+
+entries-requires : tie.Need-entries-requires
+entries-requires c κs = let s = c .before .before .before in pair-fits _ _ (s .pre .0)
+
+word-at-requires : tie.Need-word-at-requires
+word-at-requires c κs =
+    let s = c .before .before .before .before in
+    omega (arith, ap length (c .entries .ensures), pair-entries _ _ (s .pre .0))
+
+record-requires : tie.Need-record-requires
+record-requires c κs = (pair-shape _ _ (start c .pre .0), goal-there _ (known-goal c))
+
+list-of-requires : tie.Need-list-of-requires
+unfolding listCount
+list-of-requires c κs = (cut-of c, lit< tt)
+
+list-of-requires-2 : tie.Need-list-of-requires-2
+unfolding listCount
+list-of-requires-2 c κs = (cut-of (c .before), lit< tt)
+
+first-unmet-requires : tie.Need-first-unmet-requires
+first-unmet-requires c κs = (known-list (c .before .before) 0 (c .before .list-of .ensures), known-list (c .before .before) 1 (c .list-of2 .ensures), start (c .before .before .before) .pre .1)
+
+enum-told : tie.Need-enum-told
+enum-told c = search needs
+
+enum-known-c : tie.Need-enum-known-c
+enum-known-c c = search needs
+
+returns : tie.Need-returns
+unfolding endingOf unmetOf
+returns c =
+    let f = c .before .before in
+    asked-met _ _ _ (sym (unmet-is f) ∙ ap unmetOf (c .enum-told .given .1))
+
+returns-2 : tie.Need-returns-2
+unfolding endingOf unmetOf
+returns-2 c =
+    let f = c .before .before .before in
+    asked-unmet _ _ _ (sym (unmet-is f) ∙ ap unmetOf (c .before .c .given .1))
+
+pub ask-spec : {M : Type 1} → statement M
+ask-spec =
+    tie.close
+    (tie.spec
+    entries-requires
+    word-at-requires
+    record-requires
+    list-of-requires
+    list-of-requires-2
+    first-unmet-requires
+    enum-told
+    enum-known-c
+    returns
+    returns-2)

@@ -1,0 +1,23 @@
+-- `running::fact_of` meets its contract: one case for each kind.
+use Rattle.checking.specs.Verdict.{factIn}
+use Rattle.checking.specs.Running.{conditionOf}
+use borrow.Author.Needs.{needs}
+use Rattle.checking.proofs.running.fact_of.Statement.{statement}
+use Rattle.checking.proofs.running.fact_of.Tie as tie
+
+enum-known-c : tie.Need-enum-known-c
+enum-known-c c = search needs
+
+enum-known-c-2 : tie.Need-enum-known-c-2
+enum-known-c-2 c = search needs
+
+returns : tie.Need-returns
+unfolding factIn conditionOf
+returns c = rw (c .before .c .given .1)
+
+returns-2 : tie.Need-returns-2
+unfolding factIn conditionOf
+returns-2 c = rw (c .before .c2 .given .1)
+
+pub fact-of-spec : {M : Type 1} → statement M
+fact-of-spec = tie.close (tie.spec enum-known-c enum-known-c-2 returns returns-2)

@@ -1,23 +1,48 @@
--- What a section of records without a fault is: every record is fine, its lists fill it, and its facts are in their bounds.
-use Prim.Native.Nat.{ℕ, zero, suc, _+_, _≤_, _<_, zero-le, suc-le-suc}
+-- What judging gives: every record of a section without a fault is fine, its lists fill it, and its facts are below F.
+use Prim.Native.Nat.{ℕ, zero, suc, _+_, _≤_, _<_, suc-le-suc}
 use mathlib.Core.Path.{_≡_, refl, ap, _∙_, sym}
-use mathlib.Core.Bool.{Bool, true, false, not, true≢false}
-use mathlib.Core.List.{List, [], _∷_, List·Memᴰ·head, List·Memᴰ·tail}
-use mathlib.Core.Option.{Option, none, some, Option·some-ne-none}
+use mathlib.Core.Bool.{Bool, true, false, not, _||_, cond, true≢false}
+use mathlib.Core.List.{List, [], _∷_, List·Memᴰ·head, List·Memᴰ·tail, List·Memᴰ·not-nil}
+use mathlib.Core.Option.{Option, none, some, Option·none-ne-some, Option·some-ne-none}
 use native.Mathlib.Nat.{not-suc-le-zero, le-of-suc-le-suc, add-zero, zero-add, suc-add, add-suc, le-refl}
 use native.Mathlib.Omega.{arith}
-use lib.Dec.{leb, ltb}
-use lib.ListN.{length, getD}
-use borrow.Author.Tests.{leb-true, leb-false, ltb-false, not-false, le-leb, le-ltb}
+use lib.Dec.{leb, ltb, eqb}
+use lib.ListN.{length, drop, getD}
+use lib.Seq.{drop-drop}
+use borrow.Author.Tests.{leb-true, leb-false, le-leb, eq-eqb, eqb-true, not-false}
 use Rattle.sets.specs.Sets.{any, _∈_}
 use Rattle.sets.proofs.Laws.{is-false, fails, by-test, any-intro}
-use Rattle.records.specs.Words.{ascending}
-use Rattle.records.specs.Records.{given, records, listOf, longest, most, judge, firstFrom, firstFault, negated}
+use Rattle.records.specs.Words.{word, words, odd}
+use Rattle.records.specs.Records.{records, rows, whole, cut, listsOf, listOf}
+use Rattle.records.specs.Records.{most, tooLarge, anyList, judge, firstFrom, firstFault}
 use Rattle.records.specs.Answers.{code}
-use Rattle.lists.specs.Lists.{Cut, AllCut}
+use Rattle.lists.specs.Lists.{Cut, AllCut, ListBytes}
 use Rattle.records.specs.declared.Kind.{Kind}
+use Rattle.records.specs.declared.Kind.the-variants.{Clause, Rule, Goal}
+use Rattle.records.specs.declared.Row.{Row}
 use Rattle.records.proofs.Sections.{first-here, first-later}
 use Rattle.records.proofs.Judging.{or-clear, Judged, judged}
+
+-- Two answers that meet the contract of `list_of` are equal.
+pub list-unique : {K : Kind} {r : List ℕ} {j : ℕ} {x y : List ℕ} → ListBytes K r j x → ListBytes K r j y → x ≡ y
+list-unique p q = p .these ∙ sym (q .these)
+
+-- The lists of a clause are its head by itself and its body.
+pub clause-lists : (r : List ℕ) → Cut Clause r
+    → listsOf Clause r ≡ some ((word (drop 2 r) ∷ []) ∷ words (drop 4 r) ∷ [])
+unfolding Cut listsOf cut
+clause-lists r (lists, e) = rw (← drop-drop 2 2 r) (go (whole r) (odd body || ltb (length body) 2) e)
+  where
+    body : List ℕ
+    body = drop 2 r
+
+    go : (fits short : Bool)
+        → cond fits (cond short none (some ((word body ∷ []) ∷ words (drop 2 body) ∷ []))) none ≡ some lists
+        → cond fits (cond short none (some ((word body ∷ []) ∷ words (drop 2 body) ∷ []))) none
+        ≡ some ((word body ∷ []) ∷ words (drop 2 body) ∷ [])
+    go true true h = absurd (Option·none-ne-some _ h)
+    go true false h = refl
+    go false short h = absurd (Option·none-ne-some _ h)
 
 -- ---- entries of a list
 
@@ -26,17 +51,33 @@ module _ {ℓ} {A : Type ℓ} (p : A → Bool) where
   any-clear : {x : A} {xs : List A} → x ∈ xs → any p xs ≡ false → p x ≡ false
   any-clear {x} {xs} m h = is-false (λ t. fails h (any-intro p xs x m t))
 
-  -- nor does the entry at any index, if what stands beyond the end does not
-  any-at : (d : A) (xs : List A) → p d ≡ false → any p xs ≡ false → (j : ℕ) → p (getD xs j d) ≡ false
-  unfolding any
-  any-at d [] h e j = h
-  any-at d (x ∷ xs) h e zero = or-clear (p x) (any p xs) e .0
-  any-at d (x ∷ xs) h e (suc j) = any-at d xs h (or-clear (p x) (any p xs) e .1) j
-
 -- an entry stands at some index
 index-of : {r : List ℕ} {rs : List (List ℕ)} → r ∈ rs → (i : ℕ) × (i < length rs) × (getD rs i [] ≡ r)
 index-of (List·Memᴰ·head e) = (0, omega arith, sym e)
 index-of (List·Memᴰ·tail m) = let (i, h, e) = index-of m in (suc i, suc-le-suc h, e)
+
+-- ---- rows
+
+-- Where no list fails by its row, one with a number in it has a row that it does not fail by.
+row-passed : (test : Row → List ℕ → Bool) (ws : List Row) (lists : List (List ℕ)) → anyList test ws lists ≡ false
+    → (j : ℕ) {f : ℕ} → f ∈ getD lists j [] → (row : Row) × (row ∈ ws) × (test row (getD lists j []) ≡ false)
+unfolding anyList
+row-passed test ws [] e j m = absurd (List·Memᴰ·not-nil m)
+row-passed test [] (l ∷ lists) e j m = absurd (true≢false e)
+row-passed test (row ∷ ws) (l ∷ lists) e zero m = (row, List·Memᴰ·head refl, or-clear _ _ e .0)
+row-passed test (row ∷ ws) (l ∷ lists) e (suc j) m =
+    let (other, member, passed) = row-passed test ws lists (or-clear (test row l) _ e .1) j m in
+    (other, List·Memᴰ·tail member, passed)
+
+-- The numbers of every list are facts.
+limit-is : (K : Kind) (F : ℕ) {row : Row} → row ∈ rows K F → row .limit ≡ F
+unfolding any rows
+limit-is K F m = eqb-true _ _ (not-false _ (any-clear (λ (row : Row). not (eqb (row .limit) F)) m (all K)))
+  where
+    all : (K : Kind) → any (λ (row : Row). not (eqb (row .limit) F)) (rows K F) ≡ false
+    all Clause = rw (eq-eqb F F refl)
+    all Rule = rw (eq-eqb F F refl)
+    all Goal = rw (eq-eqb F F refl)
 
 -- ---- a section with no fault
 
@@ -46,33 +87,27 @@ module _ (refuses : ℕ → List ℕ → Option ℕ) where
       → (refuses n r ≡ none) × (firstFrom refuses (suc n) (at + length r) rs ≡ none)
   first-passes n at r rs h = go (refuses n r) refl
     where
-      go : (number : Option ℕ) → refuses n r ≡ number → (refuses n r ≡ none) × (firstFrom refuses (suc n) (at + length r) rs ≡ none)
+      go : (number : Option ℕ) → refuses n r ≡ number
+          → (refuses n r ≡ none) × (firstFrom refuses (suc n) (at + length r) rs ≡ none)
       go none e = (e, rw (first-later refuses n at r rs e) at h)
       go (some k) e = absurd (Option·some-ne-none _ (sym (first-here refuses n at r rs k e) ∙ h))
 
   -- Where no record from record n on is refused, each is passed at its own number.
-  pub passed-at : (n at : ℕ) (rs : List (List ℕ)) → firstFrom refuses n at rs ≡ none → (i : ℕ) → i < length rs → refuses (n + i) (getD rs i []) ≡ none
+  passed-at : (n at : ℕ) (rs : List (List ℕ)) → firstFrom refuses n at rs ≡ none → (i : ℕ) → i < length rs
+      → refuses (n + i) (getD rs i []) ≡ none
   passed-at n at [] h i l = absurd (not-suc-le-zero l)
   passed-at n at (r ∷ rs) h zero l = rw add-zero (first-passes n at r rs h .0)
   passed-at n at (r ∷ rs) h (suc i) l =
-      rw (add-suc, ← suc-add) (passed-at (suc n) (at + length r) rs (first-passes n at r rs h .1) i (le-of-suc-le-suc l))
+      rw (add-suc, ← suc-add)
+      (passed-at (suc n) (at + length r) rs (first-passes n at r rs h .1) i (le-of-suc-le-suc l))
 
   -- In a section with no fault each record is passed.
-  pub passed-record : (section : List ℕ) → firstFault refuses section ≡ none → (r : List ℕ) → r ∈ records section → (n : ℕ) × (refuses n r ≡ none)
+  passed-record : (section : List ℕ) → firstFault refuses section ≡ none → (r : List ℕ) → r ∈ records section
+      → (n : ℕ) × (refuses n r ≡ none)
   unfolding firstFault
   passed-record section fine r member =
       let (i, h, e) = index-of member in
       (0 + i, rw e at (passed-at 0 0 (records section) fine i h))
-
--- In a section where no N has a head, no fact of an N is one.
-pub unnegated : (K : Kind) (isHead : ℕ → Bool) (section : List ℕ) → firstFault (negated K isHead) section ≡ none
-    → (r : List ℕ) → r ∈ records section → (f : ℕ) → f ∈ listOf K r 1 → isHead f ≡ false
-unfolding negated given
-unnegated K isHead section fine r member f m = any-clear isHead m (go (any isHead (listOf K r 1)) (passed-record (negated K isHead) section fine r member .1))
-  where
-    go : (b : Bool) → given {A = ℕ} b 8 ≡ none → b ≡ false
-    go true e = absurd (Option·some-ne-none 8 e)
-    go false e = refl
 
 module _ (K : Kind) (F : ℕ) (section : List ℕ) (fine : firstFault (judge K F) section ≡ none) where
   -- A judged section has no more records than its bound.
@@ -85,7 +120,8 @@ module _ (K : Kind) (F : ℕ) (section : List ℕ) (fine : firstFault (judge K F
       beyond : most K < length (records section) → leb (most K) (most K) ≡ false
       beyond h =
           let last = getD (records section) (most K) [] in
-          judged K F (most K) last (sym (ap code (rw zero-add at (passed-at (judge K F) 0 0 (records section) fine (most K) h)))) .counted
+          let passed = rw zero-add at (passed-at (judge K F) 0 0 (records section) fine (most K) h) in
+          judged K F (most K) last (sym (ap code passed)) .counted
 
   module _ (r : List ℕ) (member : r ∈ records section) where
     -- the record was judged under some number, and nothing is wrong with it
@@ -93,24 +129,14 @@ module _ (K : Kind) (F : ℕ) (section : List ℕ) (fine : firstFault (judge K F
     unfolding code
     judged-as = let (n, e) = passed-record (judge K F) section fine r member in (n, judged K F n r (sym (ap code e)))
 
-    -- a test that none of its lists passes fails at each list number
-    list-test : (p : List ℕ → Bool) → p [] ≡ false → any p (judged-as .1 .lists) ≡ false → (j : ℕ) → p (listOf K r j) ≡ false
-    unfolding listOf
-    list-test p h e j = rw (judged-as .1 .fill) (any-at p [] (judged-as .1 .lists) h e j)
-
     -- Every fact of each list of a record of a judged section is below F.
     pub judged-facts : (j f : ℕ) → f ∈ listOf K r j → f < F
-    unfolding any
-    judged-facts j f m = leb-false F f (any-clear (leb F) m (list-test (any (leb F)) refl (judged-as .1 .known) j))
-
-    -- Each list of such a record is strictly ascending.
-    pub judged-order : (j : ℕ) → ascending (listOf K r j) ≡ true
-    unfolding ascending
-    judged-order j = not-false _ (list-test (λ l. not (ascending l)) refl (judged-as .1 .ordered) j)
-
-    -- Each list of such a record is no longer than its bound.
-    pub judged-short : (j : ℕ) → length (listOf K r j) ≤ longest K
-    judged-short j = ltb-false _ _ (list-test (λ l. ltb (longest K) (length l)) (le-ltb (longest K) 0 zero-le) (judged-as .1 .short) j)
+    unfolding listOf
+    judged-facts j f m =
+        let judged = judged-as .1 in
+        let here : f ∈ getD (judged .lists) j [] = rw (judged .fill) at m in
+        let (row, member, passed) = row-passed tooLarge (rows K F) (judged .lists) (judged .known) j here in
+        rw (limit-is K F member) at (leb-false (row .limit) f (any-clear (leb (row .limit)) here passed))
 
   -- The lists of every record of a judged section fill it.
   pub judged-cut : AllCut K section

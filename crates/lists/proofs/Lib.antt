@@ -1,4 +1,3 @@
--- `Laws` is for the crates above; the others are for the proofs here.
+-- `Laws` is for the crates above; `Cuts` is for the proofs here.
 pub mod Laws
 pub mod Cuts
-pub mod Heads

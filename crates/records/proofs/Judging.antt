@@ -1,28 +1,50 @@
 -- Laws on judging a record: its number from its lists, and its lists from its bytes.
-use Prim.Native.Nat.{ℕ, _+_}
-use mathlib.Core.Path.{_≡_, refl, ap, sym}
+use Prim.Native.Nat.{ℕ, zero, suc, _+_, _≤_, _<_}
+use mathlib.Core.Path.{_≡_, refl, ap, sym, _∙_}
 use mathlib.Core.Bool.{Bool, true, false, not, _||_, cond, true≢false}
-use mathlib.Core.List.{List}
-use mathlib.Core.Option.{Option, none, some}
+use mathlib.Core.List.{List, _∷_}
+use mathlib.Core.Option.{Option, none, some, Option·none-ne-some}
+use native.Mathlib.Nat.{not-suc-le-zero, le-of-suc-le-suc, suc-add}
 use native.Mathlib.Omega.{arith}
-use lib.Dec.{leb, ltb}
-use lib.ListN.{length, drop}
+use lib.Dec.{leb}
+use lib.ListN.{length, drop, replicate}
 use borrow.Author.Tests.{eq-eqb, ne-eqb}
 use Rattle.sets.specs.Sets.{any}
 use Rattle.records.specs.Words.{word, ascending}
-use Rattle.records.specs.Records.{given, _orElse_, cut, listsOf, judge, longest, most}
+use Rattle.records.specs.Records.{given, _orElse_, rows, listCount, cut, listsOf}
+use Rattle.records.specs.Records.{most, tooLong, tooLarge, anyList, judge}
 use Rattle.records.specs.Answers.{code}
 use Rattle.records.specs.Contracts.{pickedOf, before}
 use Rattle.records.specs.declared.Kind.{Kind}
+use Rattle.records.specs.declared.Kind.the-variants.{Clause, Rule, Goal}
+use Rattle.records.specs.declared.Row.{Row}
 
 -- a record is judged by the marks of its lists, after the mark for its number
-pub judge-is : (K : Kind) (F n : ℕ) (r : List ℕ) → judge K F n r ≡ pickedOf (longest K) F (before (most K) n) (listsOf K r)
+pub judge-is : (K : Kind) (F n : ℕ) (r : List ℕ) → judge K F n r ≡ pickedOf (rows K F) (before K n) (listsOf K r)
 unfolding judge pickedOf before
 judge-is K F n r = go (listsOf K r) refl
   where
-    go : (lists : Option (List (List ℕ))) → listsOf K r ≡ lists → judge K F n r ≡ pickedOf (longest K) F (before (most K) n) (listsOf K r)
+    go : (lists : Option (List (List ℕ))) → listsOf K r ≡ lists
+        → judge K F n r ≡ pickedOf (rows K F) (before K n) (listsOf K r)
     go none e = rw (e, judge)
     go (some lists) e = rw (e, judge)
+
+-- ---- rows
+
+-- a list with a count has a row
+pub counted-row : (K : Kind) (F j : ℕ) → j < listCount K → j < length (rows K F)
+unfolding listCount
+counted-row Clause F j h = absurd (not-suc-le-zero h)
+counted-row Rule F j h = h
+counted-row Goal F j h = h
+
+-- rows that are all alike have the same one at each list
+pub alike : (row : Row) (k j : ℕ) → j < k → drop j (replicate k row) ≡ row ∷ drop (j + 1) (replicate k row)
+alike row zero j h = absurd (not-suc-le-zero h)
+alike row (suc k) zero h = refl
+alike row (suc k) (suc j) h = rw suc-add (alike row k j (le-of-suc-le-suc h))
+
+-- ---- the lists of a record
 
 -- the lists of a record whose length fits
 pub lists-cut : (K : Kind) (r : List ℕ) → length r ≡ 2 + word r → listsOf K r ≡ cut K (drop 2 r)
@@ -34,6 +56,28 @@ pub lists-none : (K : Kind) (r : List ℕ) → (length r ≡ 2 + word r → ⊥)
 unfolding listsOf
 lists-none K r h = ap (λ (b : Bool). cond b (cut K (drop 2 r)) none) (ne-eqb (length r) (2 + word r) h)
 
+-- ---- the number of a record
+
+-- the number that the tests for 5, 6 and 7 give
+picked-number : (count fact order : Bool) (k : ℕ) → (given count 5 orElse given fact 6 orElse given order 7) ≡ some k
+    → (4 ≤ k) × (k ≤ 7)
+unfolding given _orElse_
+picked-number true fact order k e = let is : 5 ≡ k = cc in omega arith
+picked-number false true order k e = let is : 6 ≡ k = cc in omega arith
+picked-number false false true k e = let is : 7 ≡ k = cc in omega arith
+picked-number false false false k e = absurd (Option·none-ne-some k e)
+
+-- a record's number is 4 to 7
+pub judge-number : (K : Kind) (F n : ℕ) (r : List ℕ) (k : ℕ) → judge K F n r ≡ some k → (4 ≤ k) × (k ≤ 7)
+unfolding pickedOf before
+judge-number K F n r k e = go (listsOf K r) (sym (judge-is K F n r) ∙ e)
+  where
+    go : (lists : Option (List (List ℕ))) → pickedOf (rows K F) (before K n) lists ≡ some k → (4 ≤ k) × (k ≤ 7)
+    go none e = let is : 4 ≡ k = cc in omega arith
+    go (some lists) e =
+        picked-number (leb (most K) n || anyList tooLong (rows K F) lists) (anyList tooLarge (rows K F) lists)
+        (any (λ l. not (ascending l)) lists) k e
+
 -- ---- a number as a byte
 
 -- a byte that is not 0 is the number
@@ -43,7 +87,8 @@ refused none k e h = absurd (h e)
 refused (some j) k e h = ap {B = Option ℕ} some (sym e)
 
 -- the byte 0 is no number, since the numbers are 5, 6 and 7
-clear : (count fact order : Bool) → 0 ≡ code (given count 5 orElse given fact 6 orElse given order 7) → (count ≡ false) × (fact ≡ false) × (order ≡ false)
+clear : (count fact order : Bool) → 0 ≡ code (given count 5 orElse given fact 6 orElse given order 7)
+    → (count ≡ false) × (fact ≡ false) × (order ≡ false)
 unfolding code given _orElse_
 clear true fact order e = absurd (omega arith)
 clear false true order e = absurd (omega arith)
@@ -60,8 +105,8 @@ pub record Judged (K : Kind) (F n : ℕ) (r : List ℕ) : Type 0 where
   pub lists : List (List ℕ)
   pub fill : listsOf K r ≡ some lists
   pub counted : leb (most K) n ≡ false
-  pub short : any (λ l. ltb (longest K) (length l)) lists ≡ false
-  pub known : any (any (leb F)) lists ≡ false
+  pub short : anyList tooLong (rows K F) lists ≡ false
+  pub known : anyList tooLarge (rows K F) lists ≡ false
   pub ordered : any (λ l. not (ascending l)) lists ≡ false
 
 module _ (K : Kind) (F n : ℕ) (r : List ℕ) where
@@ -75,8 +120,8 @@ module _ (K : Kind) (F n : ℕ) (r : List ℕ) where
           let four : _≡_ {A = ℕ} 0 4 = rw (cut, judge) at e in
           absurd (omega arith)
       go (some lists) cut e =
-          let tests = clear (leb (most K) n || any (λ l. ltb (longest K) (length l)) lists) (any (any (leb F)) lists) (any (λ l. not (ascending l)) lists) (rw (cut, judge) at e) in
-          let count = or-clear (leb (most K) n) (any (λ l. ltb (longest K) (length l)) lists) (tests .0) in
+          let tests = clear _ _ _ (rw (cut, judge) at e) in
+          let count = or-clear _ _ (tests .0) in
           record {
             lists = lists;
             fill = cut;

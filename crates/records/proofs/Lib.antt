@@ -1,4 +1,5 @@
--- What the proofs here cite: laws on numbers in bytes, on sections and places, on lists and judging; `Laws` is for the crates above.
+-- What the proofs here cite: laws on numbers in bytes, on sections and places, on lists and judging. `Laws` is for the
+-- crates above.
 pub mod Words
 pub mod Sections
 pub mod Lists

@@ -1,7 +1,6 @@
 -- Laws on the records of a section, one at a time, and on the answer of a loop that judges them in order.
 use Prim.Native.Nat.{ℕ, zero, suc, _+_, _-_, _≤_, _<_}
 use mathlib.Core.Path.{_≡_, refl, ap, _∙_, sym}
-use mathlib.Core.Bool.{Bool, cond}
 use mathlib.Core.List.{List, [], _∷_}
 use mathlib.Core.Option.{Option, none, some}
 use native.Mathlib.Nat.{not-suc-le-zero, zero-add, add-zero, add-suc, suc-add, le-refl, le-of-eq}
@@ -26,15 +25,16 @@ rest-of xs at = take-all (length xs - at) (drop at xs) (le-of-eq (length-drop at
 -- a record whose length fits
 pub record-fits : (bytes : List ℕ) → 2 + word bytes ≤ length bytes → recordOf bytes ≡ take (2 + word bytes) bytes
 unfolding recordOf
-record-fits bytes h = ap (λ (b : Bool). cond b (take (2 + word bytes) bytes) bytes) (le-leb (2 + word bytes) (length bytes) h)
+record-fits bytes h = rw (le-leb (2 + word bytes) (length bytes) h)
 
 -- a record whose length does not fit
 pub record-rest : (bytes : List ℕ) → length bytes < 2 + word bytes → recordOf bytes ≡ bytes
 unfolding recordOf
-record-rest bytes h = ap (λ (b : Bool). cond b (take (2 + word bytes) bytes) bytes) (lt-leb (2 + word bytes) (length bytes) h)
+record-rest bytes h = rw (lt-leb (2 + word bytes) (length bytes) h)
 
 -- a record takes a byte of a section that has one, and no more than the section has
-pub record-size : (bytes : List ℕ) → 0 < length bytes → (0 < length (recordOf bytes)) × (length (recordOf bytes) ≤ length bytes)
+pub record-size : (bytes : List ℕ) → 0 < length bytes
+    → (0 < length (recordOf bytes)) × (length (recordOf bytes) ≤ length bytes)
 record-size bytes h =
     by-test (leb (2 + word bytes) (length bytes))
     (λ e.
@@ -45,7 +45,8 @@ record-size bytes h =
 -- ---- the records of a section
 
 -- turns beyond the number of bytes change nothing
-more-turns : (turns turns′ : ℕ) (bytes : List ℕ) → length bytes ≤ turns → length bytes ≤ turns′ → recordsIn turns bytes ≡ recordsIn turns′ bytes
+more-turns : (turns turns′ : ℕ) (bytes : List ℕ) → length bytes ≤ turns → length bytes ≤ turns′
+    → recordsIn turns bytes ≡ recordsIn turns′ bytes
 unfolding recordsIn
 more-turns zero zero bytes h h′ = refl
 more-turns zero (suc turns′) [] h h′ = refl
@@ -57,7 +58,8 @@ more-turns (suc turns) (suc turns′) (b ∷ bytes) h h′ =
     let r = recordOf (b ∷ bytes) in
     let size = record-size (b ∷ bytes) (omega arith) in
     let rest = drop (length r) (b ∷ bytes) in
-    ap (λ (rs : List (List ℕ)). r ∷ rs) (more-turns turns turns′ rest (rw length-drop (omega arith)) (rw length-drop (omega arith)))
+    ap (λ (rs : List (List ℕ)). r ∷ rs)
+    (more-turns turns turns′ rest (rw length-drop (omega arith)) (rw length-drop (omega arith)))
 
 -- no bytes, no records
 pub records-none : records [] ≡ []
@@ -65,14 +67,16 @@ unfolding records
 records-none = refl
 
 -- a section is its first record and the records of the rest
-pub records-next : (section : List ℕ) → 0 < length section → records section ≡ recordOf section ∷ records (drop (length (recordOf section)) section)
+pub records-next : (section : List ℕ) → 0 < length section
+    → records section ≡ recordOf section ∷ records (drop (length (recordOf section)) section)
 unfolding records
 records-next [] h = absurd (not-suc-le-zero h)
 records-next (b ∷ bytes) h =
     let r = recordOf (b ∷ bytes) in
     let size = record-size (b ∷ bytes) h in
     let rest = drop (length r) (b ∷ bytes) in
-    ap (λ (rs : List (List ℕ)). r ∷ rs) (more-turns (length bytes) (length rest) rest (rw length-drop (omega arith)) (le-refl (length rest)))
+    ap (λ (rs : List (List ℕ)). r ∷ rs)
+    (more-turns (length bytes) (length rest) rest (rw length-drop (omega arith)) (le-refl (length rest)))
 
 -- no records from the section's end on
 pub records-end : (section : List ℕ) (at : ℕ) → length section ≤ at → records (drop at section) ≡ []
@@ -99,21 +103,26 @@ place-after section at r e h =
 module _ (refuses : ℕ → List ℕ → Option ℕ) where
   module _ (n at : ℕ) (r : List ℕ) (rs : List (List ℕ)) where
     -- the first fault is at a record that is refused
-    pub first-here : (k : ℕ) → refuses n r ≡ some k → firstFrom refuses n at (r ∷ rs) ≡ some (record { number = k; start = at; size = length r })
+    pub first-here : (k : ℕ) → refuses n r ≡ some k
+        → firstFrom refuses n at (r ∷ rs) ≡ some (record { number = k; start = at; size = length r })
     unfolding firstFrom
     first-here k refused = rw (refused, firstFrom)
 
     -- and after one that is not
-    pub first-later : refuses n r ≡ none → firstFrom refuses n at (r ∷ rs) ≡ firstFrom refuses (suc n) (at + length r) rs
+    pub first-later : refuses n r ≡ none
+        → firstFrom refuses n at (r ∷ rs) ≡ firstFrom refuses (suc n) (at + length r) rs
     unfolding firstFrom
     first-later passed = rw (passed, firstFrom)
 
   -- the answer of a judge that has come to record n, at a place of the section
   unfoldable pub answerFrom : List ℕ → ℕ → ℕ → Found
-  answerFrom section n at = found (firstFrom refuses n at (records (drop at section))) (n + length (records (drop at section)))
+  answerFrom section n at =
+      let left = records (drop at section) in
+      found (firstFrom refuses n at left) (n + length left)
 
   -- at the section's start it is the answer for the section
-  pub answer-start : (section : List ℕ) → found (firstFault refuses section) (length (records section)) ≡ answerFrom section 0 0
+  pub answer-start : (section : List ℕ)
+      → found (firstFault refuses section) (length (records section)) ≡ answerFrom section 0 0
   unfolding answerFrom firstFault
   answer-start section = rw zero-add
 
@@ -122,9 +131,11 @@ module _ (refuses : ℕ → List ℕ → Option ℕ) where
   unfolding answerFrom firstFrom found
   answer-end section n at h = rw (records-end section at h) (ap Found.Fine (add-zero n))
 
-  module _ (section : List ℕ) (n at : ℕ) (r : List ℕ) (e : r ≡ recordOf (drop at section)) (h : at < length section) where
+  module _ (section : List ℕ) (n at : ℕ) (r : List ℕ) (e : r ≡ recordOf (drop at section))
+      (h : at < length section) where
     -- a record that is refused is the answer
-    pub answer-fault : (k : ℕ) → refuses n r ≡ some k → answerFrom section n at ≡ Found.Fault (record { number = k; start = at; size = length r })
+    pub answer-fault : (k : ℕ) → refuses n r ≡ some k
+        → answerFrom section n at ≡ Found.Fault (record { number = k; start = at; size = length r })
     unfolding answerFrom found
     answer-fault k refused = rw (records-at section at r e h, first-here n at r _ k refused)
 
@@ -133,4 +144,5 @@ module _ (refuses : ℕ → List ℕ → Option ℕ) where
     unfolding answerFrom
     answer-next passed =
         let rest = records (drop (at + length r) section) in
-        rw (records-at section at r e h, first-later n at r rest passed, add-one) (rw (add-suc n (length rest), suc-add n (length rest)))
+        rw (records-at section at r e h, first-later n at r rest passed, add-one)
+        (rw (add-suc n (length rest), suc-add n (length rest)))

@@ -1,6 +1,6 @@
 -- Laws on the numbers in bytes: how large they are, how many there are, and the next one at a place.
 use Prim.Native.Nat.{ℕ, _+_, _/_, _%_, _≤_, _<_}
-use mathlib.Core.Path.{_≡_, refl, ap, _∙_, sym}
+use mathlib.Core.Path.{_≡_, refl, _∙_, sym}
 use mathlib.Core.Bool.{true, false, true≢false, false≢true}
 use mathlib.Core.List.{List, [], _∷_}
 use native.Mathlib.Nat.{not-suc-le-zero, le-of-suc-le-suc}
@@ -17,7 +17,8 @@ use Rattle.records.specs.Words.{word, words, odd}
 -- two bytes make a number below 65,536
 pub word-small : (bytes : List ℕ) (at : ℕ) → ((i : ℕ) → Fits w8 (getD bytes i 0)) → word (drop at bytes) < 65536
 unfolding word
-word-small bytes at byte = rw (getD-drop at bytes 0 0, getD-drop at bytes 1 0) (omega (arith, byte (at + 0), byte (at + 1)))
+word-small bytes at byte =
+    rw (getD-drop at bytes 0 0, getD-drop at bytes 1 0) (omega (arith, byte (at + 0), byte (at + 1)))
 
 -- two bytes and what follows them
 pub words-two : (bytes : List ℕ) → 2 ≤ length bytes → words bytes ≡ word bytes ∷ words (drop 2 bytes)
@@ -34,8 +35,9 @@ words-none (a ∷ []) h = refl
 words-none (a ∷ b ∷ rest) h = absurd (not-suc-le-zero (le-of-suc-le-suc (le-of-suc-le-suc h)))
 
 -- the next number at a place, and those from two bytes further on
-pub words-at : (bytes : List ℕ) (at : ℕ) → 2 ≤ length (drop at bytes) → words (drop at bytes) ≡ word (drop at bytes) ∷ words (drop (at + 2) bytes)
-words-at bytes at h = words-two (drop at bytes) h ∙ ap (λ (l : List ℕ). word (drop at bytes) ∷ words l) (drop-drop 2 at bytes)
+pub words-at : (bytes : List ℕ) (at : ℕ) → 2 ≤ length (drop at bytes)
+    → words (drop at bytes) ≡ word (drop at bytes) ∷ words (drop (at + 2) bytes)
+words-at bytes at h = words-two (drop at bytes) h ∙ rw (drop-drop 2 at bytes)
 
 -- there is a number for every two bytes
 pub length-words : (bytes : List ℕ) → length (words bytes) ≡ length bytes / 2

@@ -1,8 +1,9 @@
--- Records, the lists in them, and the first fault of a section of records (document 01, "File layouts", "Bounds" and "the order").
+-- Records, the lists in them, and the first fault of a section of records (document 01, "File layouts", "Bounds" and
+-- "the order").
 use Prim.Native.Nat.{ℕ, zero, suc, _+_, _*_}
 use mathlib.Core.Bool.{Bool, true, false, not, _||_, cond}
 use mathlib.Core.List.{List, [], _∷_}
-use mathlib.Core.Option.{Option, none, some, Option·map, Option·getD}
+use mathlib.Core.Option.{Option, none, some, Option·map, Option·getD, orElse as firstOf}
 use lib.Dec.{leb, ltb, eqb}
 use lib.ListN.{length, take, drop, getD}
 use Rattle.sets.specs.Sets.{any}
@@ -10,6 +11,7 @@ use Rattle.records.specs.Words.{word, words, odd, ascending}
 use Rattle.records.specs.declared.Fault.{Fault}
 use Rattle.records.specs.declared.Kind.{Kind}
 use Rattle.records.specs.declared.Kind.the-variants.{Clause, Rule, Goal}
+use Rattle.records.specs.declared.Row.{Row}
 
 infixr 25 _orElse_
 -- ---- the first of several faults
@@ -21,12 +23,13 @@ given false x = none
 
 -- the first where there is one, otherwise the second
 unfoldable pub _orElse_ {ℓ} : {A : Type ℓ} → Option A → Option A → Option A
-some x orElse y = some x
-none orElse y = y
+unfolding firstOf
+x orElse y = firstOf x y
 
 -- ---- records
 
--- "A record is a 2-byte length and that many bytes.": the one at the start of these bytes, with its length; "where a record's length doesn't fit: the rest"
+-- "A record is a 2-byte length and that many bytes.": the one at the start of these bytes, with its length; "Where a
+-- record's length doesn't fit: the rest of the section, from that length on."
 unfoldable pub recordOf : List ℕ → List ℕ
 unfolding word
 recordOf bytes = cond (leb (2 + word bytes) (length bytes)) (take (2 + word bytes) bytes) bytes
@@ -41,7 +44,8 @@ unfoldable pub recordsIn : ℕ → List ℕ → List (List ℕ)
 unfolding recordOf
 recordsIn zero bytes = []
 recordsIn (suc turns) [] = []
-recordsIn (suc turns) (b ∷ bytes) = recordOf (b ∷ bytes) ∷ recordsIn turns (drop (length (recordOf (b ∷ bytes))) (b ∷ bytes))
+recordsIn (suc turns) (b ∷ bytes) =
+    recordOf (b ∷ bytes) ∷ recordsIn turns (drop (length (recordOf (b ∷ bytes))) (b ∷ bytes))
 
 -- "Records are numbered from 0.": all of a section, by their place in this list
 unfoldable pub records : List ℕ → List (List ℕ)
@@ -56,27 +60,48 @@ placeOf (suc n) (r ∷ rs) = length r + placeOf n rs
 
 -- ---- the lists of a record
 
--- "A list is a 2-byte count and that many facts. Lists fill the record exactly.": the k lists that these bytes are, if they are
+-- at most so many facts, each below F
+abbrev facts : ℕ → ℕ → Row
+facts longest F = record { longest = longest; limit = F }
+
+-- "A clause is its head and then the body facts .. A rule is three lists P, N, A; an attack state two, P and N.": a row
+-- for each list of a record, in order; the head is a list by itself. "body facts 16 .. each list 32"
+unfoldable pub rows : Kind → ℕ → List Row
+rows Clause F = facts 1 F ∷ facts 16 F ∷ []
+rows Rule F = facts 32 F ∷ facts 32 F ∷ facts 32 F ∷ []
+rows Goal F = facts 32 F ∷ facts 32 F ∷ []
+
+-- how many lists with a count a record of the kind has: a clause's have none
+unfoldable pub listCount : Kind → ℕ
+unfolding rows
+listCount Clause = 0
+listCount Rule = length (rows Rule 0)
+listCount Goal = length (rows Goal 0)
+
+-- "A list is a 2-byte count and that many facts. Lists fill the record exactly.": the k lists that these bytes are, if
+-- they are
 unfoldable pub cutLists : ℕ → List ℕ → Option (List (List ℕ))
 unfolding word words
 cutLists zero [] = some []
 cutLists zero (b ∷ bytes) = none
 cutLists (suc k) bytes =
     cond (leb (2 + 2 * word bytes) (length bytes))
-    (Option·map (λ rest. words (take (2 * word bytes) (drop 2 bytes)) ∷ rest) (cutLists k (drop (2 + 2 * word bytes) bytes)))
+    (Option·map (λ rest. words (take (2 * word bytes) (drop 2 bytes)) ∷ rest)
+    (cutLists k (drop (2 + 2 * word bytes) bytes)))
     none
 
 -- "A clause is its head and then the body facts, 2 bytes each.": the head as a list by itself, and the body
 unfoldable pub cutClause : List ℕ → Option (List (List ℕ))
 unfolding word words odd
-cutClause bytes = cond (odd bytes || ltb (length bytes) 2) none (some ((word bytes ∷ []) ∷ words (drop 2 bytes) ∷ []))
+cutClause bytes =
+    cond (odd bytes || ltb (length bytes) 2) none (some ((word bytes ∷ []) ∷ words (drop 2 bytes) ∷ []))
 
--- "A rule is three lists P, N, A; an attack state two, P and N."
+-- the lists that the bytes after a record's length are, if they are
 unfoldable pub cut : Kind → List ℕ → Option (List (List ℕ))
-unfolding cutClause cutLists
+unfolding cutClause cutLists listCount
 cut Clause = cutClause
-cut Rule = cutLists 3
-cut Goal = cutLists 2
+cut Rule = cutLists (listCount Rule)
+cut Goal = cutLists (listCount Goal)
 
 -- the lists of a record, if its length fits and they fill it
 unfoldable pub listsOf : Kind → List ℕ → Option (List (List ℕ))
@@ -96,41 +121,52 @@ most Clause = 4096
 most Rule = 2048
 most Goal = 64
 
--- "body facts 16 .. each list 32"
-unfoldable pub longest : Kind → ℕ
-longest Clause = 16
-longest Rule = 32
-longest Goal = 32
+-- a list longer than its row allows
+abbrev pub tooLong : Row → List ℕ → Bool
+tooLong row l = ltb (row .longest) (length l)
 
--- "Within a record 4 comes before 5, 5 before 6, 6 before 7; a record beyond the section's bound is judged for 4 and then is 5.": record n of its section, in a model of F facts
+-- a list with a number that its row doesn't allow
+abbrev pub tooLarge : Row → List ℕ → Bool
+tooLarge row l = any (leb (row .limit)) l
+
+-- some list fails by its row's test; one without a row fails by any
+unfoldable pub anyList : (Row → List ℕ → Bool) → List Row → List (List ℕ) → Bool
+anyList fails all [] = false
+anyList fails [] (l ∷ lists) = true
+anyList fails (row ∷ others) (l ∷ lists) = fails row l || anyList fails others lists
+
+-- "Within a record 4 comes before 5, 5 before 6, 6 before 7; a record beyond the section's bound is judged for 4 and
+-- then is 5.": record n of its section, in a model of F facts
 unfoldable pub judge : Kind → ℕ → ℕ → List ℕ → Option ℕ
-unfolding listsOf given _orElse_ most longest any ascending
+unfolding listsOf given _orElse_ most rows anyList any ascending
 judge K F n r =
     elim (listsOf K r) [
       | none ↦ some 4
       | some lists ↦
-          given (leb (most K) n || any (λ l. ltb (longest K) (length l)) lists) 5
-          orElse given (any (any (leb F)) lists) 6
+          given (leb (most K) n || anyList tooLong (rows K F) lists) 5
+          orElse given (anyList tooLarge (rows K F) lists) 6
           orElse given (any (λ l. not (ascending l)) lists) 7
     ]
 
--- "The initial facts, each clause body and each list are strictly ascending.": bare numbers, which fill the bytes and are below F
+-- "The initial facts, each clause body and each list are strictly ascending.": bare numbers, which fill the bytes and
+-- are below F
 unfoldable pub bare : ℕ → List ℕ → Option ℕ
 unfolding given _orElse_ odd any words ascending
-bare F bytes = given (odd bytes) 4 orElse given (any (leb F) (words bytes)) 6 orElse given (not (ascending (words bytes))) 7
+bare F bytes =
+    given (odd bytes) 4
+    orElse given (any (leb F) (words bytes)) 6
+    orElse given (not (ascending (words bytes))) 7
 
 -- the first record, in file order, that a judge refuses: record n stands at place `at`
 unfoldable pub firstFrom : (ℕ → List ℕ → Option ℕ) → ℕ → ℕ → List (List ℕ) → Option Fault
 firstFrom refuses n at [] = none
 firstFrom refuses n at (r ∷ rs) =
-    elim (refuses n r) [ some k ↦ some (record { number = k; start = at; size = length r }) | none ↦ firstFrom refuses (suc n) (at + length r) rs ]
+    elim (refuses n r) [
+      | some k ↦ some (record { number = k; start = at; size = length r })
+      | none ↦ firstFrom refuses (suc n) (at + length r) rs
+    ]
 
 -- the first fault of a section of records
 unfoldable pub firstFault : (ℕ → List ℕ → Option ℕ) → List ℕ → Option Fault
 unfolding firstFrom records
 firstFault refuses section = firstFrom refuses 0 0 (records section)
-
--- "a clause head in an N": the facts of the list with number 1
-unfoldable pub negated : Kind → (ℕ → Bool) → ℕ → List ℕ → Option ℕ
-unfolding given any listOf
-negated K isHead n r = given (any isHead (listOf K r 1)) 8

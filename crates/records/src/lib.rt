@@ -1,9 +1,11 @@
 // Reads records out of a lent section: where each starts, what is wrong with it, and the lists in it.
 ghost use mathlib.Core.Path.{_≡_};
 ghost use Prim.Native.Nat.{_+_, _<_, _≤_};
+ghost use mathlib.Core.List.{_∷_};
 ghost use lib.ListN.{length, drop};
 ghost use Rattle.records.specs.Words.{word};
-ghost use Rattle.records.specs.Records.{recordOf, records, bare, judge, firstFault, cutLists, cutClause, placeOf};
+ghost use Rattle.records.specs.Records.{recordOf, records, placeOf, rows, listCount, cutLists, cutClause};
+ghost use Rattle.records.specs.Records.{bare, judge, firstFault};
 ghost use Rattle.records.specs.Answers.{code, found};
 ghost use Rattle.records.specs.Contracts.{Marked, picked, pickedOf, before};
 
@@ -25,6 +27,12 @@ pub struct Fault {
 pub enum Found {
     Fine(usize),
     Fault(Fault),
+}
+
+// What a list of a record is allowed: so many numbers, each below the limit.
+pub struct Row {
+    pub longest: usize,
+    pub limit: usize,
 }
 
 // Which faults a record's lists have shown so far.
@@ -69,9 +77,36 @@ pub fn record_at(section: &[u8], at: usize) -> &[u8]
     }
 }
 
+// How many lists with a count a record of the kind has: a clause's have none.
+fn list_count(kind: Kind) -> usize
+    ensures { λ r. ⌜ r ≡ listCount kind ⌝ }
+{
+    match kind {
+        Kind::Clause => 0,
+        Kind::Rule => 3,
+        Kind::Goal => 2,
+    }
+}
+
+// What list j of a record is allowed. The caller knows that records of the kind have it.
+fn row_of(kind: Kind, j: usize, facts: usize) -> Row
+    requires { ⌜ j < length (rows kind facts) ⌝ }
+    ensures { λ r. ⌜ drop j (rows kind facts) ≡ r ∷ drop (j + 1) (rows kind facts) ⌝ }
+{
+    let longest = match kind {
+        Kind::Clause => if j == 0 { 1 } else { 16 },
+        Kind::Rule => 32,
+        Kind::Goal => 32,
+    };
+    Row {
+        longest,
+        limit: facts,
+    }
+}
+
 // The marks with those of one more list.
-fn mark_list(list: &[u8], longest: usize, facts: usize, marks: Marks) -> Marks
-    ensures { λ r. ⌜ Marked (now (list .entry)) longest facts marks r ⌝ }
+fn mark_list(list: &[u8], row: Row, marks: Marks) -> Marks
+    ensures { λ r. ⌜ Marked (now (list .entry)) row marks r ⌝ }
 {
     let mut fact = marks.fact;
     let mut order = marks.order;
@@ -79,7 +114,7 @@ fn mark_list(list: &[u8], longest: usize, facts: usize, marks: Marks) -> Marks
     let mut at = 0;
     while 2 <= list.len() - at {
         let f = word_at(list, at);
-        if facts <= f {
+        if row.limit <= f {
             fact = true;
         }
         if f < floor {
@@ -89,7 +124,7 @@ fn mark_list(list: &[u8], longest: usize, facts: usize, marks: Marks) -> Marks
         at += 2;
     }
     Marks {
-        count: marks.count || longest < list.len() / 2,
+        count: marks.count || row.longest < list.len() / 2,
         fact,
         order,
     }
@@ -117,18 +152,28 @@ pub fn numbers_number(bytes: &[u8], facts: usize) -> u8
     if bytes.len() % 2 == 1 {
         return 4;
     }
-    let marks = mark_list(bytes, bytes.len(), facts, beyond(1, 0));
-    pick(marks)
+    // The numbers have no bound of their own, so they may fill the bytes.
+    let row = Row {
+        longest: bytes.len(),
+        limit: facts,
+    };
+    let clear = Marks {
+        count: false,
+        fact: false,
+        order: false,
+    };
+    pick(mark_list(bytes, row, clear))
 }
 
 // The number for a rule's or an attack state's lists, after some marks.
-fn lists_number(body: &[u8], lists: usize, longest: usize, facts: usize, marks: Marks) -> u8
-    ensures { λ r. ⌜ r ≡ code (pickedOf longest facts marks (cutLists lists (now (body .entry)))) ⌝ }
+fn lists_number(body: &[u8], kind: Kind, facts: usize, marks: Marks) -> u8
+    ensures { λ r. ⌜ r ≡ code (pickedOf (rows kind facts) marks (cutLists (listCount kind) (now (body .entry)))) ⌝ }
 {
+    let lists = list_count(kind);
     let mut marks = marks;
     let mut at = 0;
-    let mut left = lists;
-    while 0 < left {
+    let mut j = 0;
+    while j < lists {
         if body.len() - at < 2 {
             return 4;
         }
@@ -138,8 +183,8 @@ fn lists_number(body: &[u8], lists: usize, longest: usize, facts: usize, marks: 
             return 4;
         }
         at = start + size;
-        marks = mark_list(&body[start..at], longest, facts, marks);
-        left -= 1;
+        marks = mark_list(&body[start..at], row_of(kind, j, facts), marks);
+        j += 1;
     }
     if at < body.len() {
         return 4;
@@ -148,14 +193,14 @@ fn lists_number(body: &[u8], lists: usize, longest: usize, facts: usize, marks: 
 }
 
 // The number for a clause's head and body, after some marks.
-fn clause_number(body: &[u8], longest: usize, facts: usize, marks: Marks) -> u8
-    ensures { λ r. ⌜ r ≡ code (pickedOf longest facts marks (cutClause (now (body .entry)))) ⌝ }
+fn clause_number(body: &[u8], facts: usize, marks: Marks) -> u8
+    ensures { λ r. ⌜ r ≡ code (pickedOf (rows Kind.Clause facts) marks (cutClause (now (body .entry)))) ⌝ }
 {
     if body.len() < 2 || body.len() % 2 == 1 {
         return 4;
     }
-    let marks = mark_list(&body[..2], longest, facts, marks);
-    let marks = mark_list(&body[2..], longest, facts, marks);
+    let marks = mark_list(&body[..2], row_of(Kind::Clause, 0, facts), marks);
+    let marks = mark_list(&body[2..], row_of(Kind::Clause, 1, facts), marks);
     pick(marks)
 }
 
@@ -171,17 +216,23 @@ fn record_number(whole: &[u8], kind: Kind, n: usize, facts: usize) -> u8
     if size != body.len() {
         return 4;
     }
+    let marks = beyond(kind, n);
     match kind {
-        Kind::Clause => clause_number(body, 16, facts, beyond(4096, n)),
-        Kind::Rule => lists_number(body, 3, 32, facts, beyond(2048, n)),
-        Kind::Goal => lists_number(body, 2, 32, facts, beyond(64, n)),
+        Kind::Clause => clause_number(body, facts, marks),
+        Kind::Rule => lists_number(body, kind, facts, marks),
+        Kind::Goal => lists_number(body, kind, facts, marks),
     }
 }
 
 // The marks before a record's lists are looked at: whether record n is beyond its section's bound.
-fn beyond(most: usize, n: usize) -> Marks
-    ensures { λ r. ⌜ r ≡ before most n ⌝ }
+fn beyond(kind: Kind, n: usize) -> Marks
+    ensures { λ r. ⌜ r ≡ before kind n ⌝ }
 {
+    let most = match kind {
+        Kind::Clause => 4096,
+        Kind::Rule => 2048,
+        Kind::Goal => 64,
+    };
     Marks {
         count: most <= n,
         fact: false,
@@ -191,7 +242,8 @@ fn beyond(most: usize, n: usize) -> Marks
 
 // The first fault of a section of records, or how many records it has.
 pub fn first_fault(section: &[u8], kind: Kind, facts: usize) -> Found
-    ensures { λ r. ⌜ r ≡ found (firstFault (judge kind facts) (now (section .entry))) (length (records (now (section .entry)))) ⌝ }
+    ensures { λ r. let bytes = now (section .entry) in
+        ⌜ r ≡ found (firstFault (judge kind facts) bytes) (length (records bytes)) ⌝ }
 {
     let mut at = 0;
     let mut n = 0;

@@ -1,36 +1,40 @@
--- `list_of` meets its contract: the list that was so many lists ahead where the loop began is as many ahead as are left to pass.
-use Prim.Native.Nat.{ℕ, _+_, _-_, _*_, _≤_}
-use mathlib.Core.Path.{_≡_, sym, ap, _∙_, subst}
-use mathlib.Core.List.{List}
+-- `list_of` meets its contract: the list that was so many lists ahead where the loop began is as many ahead as are left
+-- to pass.
+use Prim.Native.Nat.{_+_, _-_, _*_, _≤_}
+use mathlib.Core.Path.{_≡_, refl, sym, _∙_}
 use native.Mathlib.Omega.{arith}
 use denote.Ref.{now}
-use lib.ListN.{length, take, drop, length-drop}
+use lib.ListN.{length, drop, length-drop}
 use lib.Seq.{drop-drop}
-use Rattle.records.specs.Words.{word, words, odd}
-use Rattle.records.specs.Records.{listOf}
-use Rattle.lists.proofs.Cuts.{Ahead, ahead-fits, ahead-next, ahead-here, list-ahead}
+use Rattle.records.specs.Words.{word}
+use Rattle.lists.specs.Lists.{listAt}
+use Rattle.lists.proofs.Cuts.{Ahead, ahead-fits, ahead-next, ahead-here, list-ahead, list-bytes}
 use Rattle.lists.proofs.list_of.Statement.{statement}
 use Rattle.lists.proofs.list_of.Tie as tie
 
 abbrev Inv-loop : tie.InvT-loop
-Inv-loop whole j at₀ left₀ at left = (facts : List ℕ) → Ahead left₀ (drop at₀ whole) facts → Ahead left (drop at whole) facts
+Inv-loop whole j at₀ left₀ at left =
+    Ahead left₀ (drop at₀ whole)
+    → Ahead left (drop at whole) × (listAt left (drop at whole) ≡ listAt left₀ (drop at₀ whole))
 
 abbrev μ-loop : tie.MeasureT-loop
 μ-loop whole j at₀ left₀ at left = left
 
 -- the list that is asked for is so many lists ahead
-ahead : (c : tie.At-loop Inv-loop μ-loop) → let a = c .before .before .args in Ahead (c .loop .left) (drop (c .loop .at) (now (a .whole))) (listOf (a .kind) (now (a .whole)) (a .j))
-ahead c =
-    let a = c .before .before .args in
-    let judged = c .before .before .pre in
-    c .loop .inv _ (list-ahead (a .kind) (now (a .whole)) (a .j) (judged .0) (judged .1))
+ahead : (c : tie.At-loop Inv-loop μ-loop)
+    → let a = c .before .before .args in
+    let bytes = drop (c .loop .at) (now (a .whole)) in
+    Ahead (c .loop .left) bytes × (listAt (c .loop .left) bytes ≡ listAt (a .j) (drop 2 (now (a .whole))))
+ahead c = let asked = c .before .before .pre in c .loop .inv (list-ahead _ _ _ (asked .0) (asked .1))
 
 -- the list at hand fits
-fits : (c : tie.At-loop Inv-loop μ-loop) → let whole = now (c .before .before .args .whole) in c .loop .at + (2 + 2 * word (drop (c .loop .at) whole)) ≤ length whole
-fits c = omega (arith, ahead-fits _ _ _ (ahead c), length-drop (c .loop .at) (now (c .before .before .args .whole)))
+fits : (c : tie.At-loop Inv-loop μ-loop)
+    → let whole = now (c .before .before .args .whole) in
+    c .loop .at + (2 + 2 * word (drop (c .loop .at) whole)) ≤ length whole
+fits c = omega (arith, ahead-fits _ _ (ahead c .0), length-drop (c .loop .at) (now (c .before .before .args .whole)))
 
 loop-holds : tie.Need-loop-holds Inv-loop μ-loop
-loop-holds c = λ facts a. a
+loop-holds c = λ a. (a, refl)
 
 word-at-requires : tie.Need-word-at-requires Inv-loop μ-loop
 word-at-requires c κs = omega (arith, fits (c .before))
@@ -51,12 +55,13 @@ loop-less : tie.Need-loop-less Inv-loop μ-loop
 loop-less c = omega arith
 
 loop-again : tie.Need-loop-again Inv-loop μ-loop
-loop-again c = λ facts a.
+loop-again c = λ a.
     let at = c .before .before .loop .at in
     let whole = now (c .before .before .before .before .args .whole) in
     let size : 2 + 2 * word (drop at whole) ≡ 2 + c .word-at .result * 2 = omega (arith, c .word-at .ensures) in
-    subst (λ (l : List ℕ). Ahead (c .before .before .loop .left - 1) l facts) (drop-drop _ at whole ∙ ap (λ (k : ℕ). drop (at + k) whole) size)
-    (ahead-next _ (drop at whole) facts (omega arith) (c .before .before .loop .inv facts a))
+    let (here, same) = c .before .before .loop .inv a in
+    let (later, next) = ahead-next _ (drop at whole) (omega arith) here in
+    rw (← size, ← drop-drop) (later, next ∙ same)
 
 add-start : tie.Need-add-start Inv-loop μ-loop
 add-start c = omega (arith, fits (c .before))
@@ -83,10 +88,12 @@ returns : tie.Need-returns Inv-loop μ-loop
 returns c =
     let at = c .before .before .before .loop .at in
     let whole = now (c .before .before .before .before .before .args .whole) in
-    let size : at + 2 + c .before .word-at2 .result * 2 - (at + 2) ≡ 2 * word (drop at whole) = omega (arith, c .before .word-at2 .ensures) in
-    let part = ap (λ (k : ℕ). take k (drop (at + 2) whole)) size ∙ ap (λ (l : List ℕ). take (2 * word (drop at whole)) l) (sym (drop-drop 2 at whole)) in
-    let here = ahead-here _ _ _ (c .before .before .loop-test .left) (ahead (c .before .before .before)) in
-    record { facts = ap words part ∙ here .0; even = ap odd part ∙ here .1 }
+    let size : at + 2 + c .before .word-at2 .result * 2 - (at + 2) ≡ 2 * word (drop at whole) = omega
+    (arith, c .before .word-at2 .ensures) in
+    let asked = c .before .before .before .before .before .pre in
+    let here = sym (ahead-here _ (drop at whole) (c .before .before .loop-test .left)) in
+    rw (size, ← drop-drop 2 at whole, here, ahead (c .before .before .before) .1)
+    (list-bytes _ _ _ (asked .0) (asked .1))
 
 pub list-of-spec : {M : Type 1} → statement M
 list-of-spec =

@@ -8,6 +8,7 @@ use lib.ListN.{take, drop, length-take}
 use denote.Ref.{now}
 use borrow.Author.Tests.{lt-ltb, le-ltb}
 use Rattle.records.specs.Words.{words}
+use Rattle.records.specs.Records.{rows}
 use Rattle.records.specs.Answers.{code}
 use Rattle.records.specs.Contracts.{pickedOf}
 use Rattle.records.proofs.Sections.{rest-of}
@@ -29,6 +30,10 @@ returns c =
 slice-aggregate-mark-list : tie.Need-slice-aggregate-mark-list
 slice-aggregate-mark-list c = rw length-take (omega arith)
 
+row-of-requires : tie.Need-row-of-requires
+unfolding rows
+row-of-requires c κs = omega arith
+
 mark-list-requires : tie.Need-mark-list-requires
 mark-list-requires c κs = search needs
 
@@ -41,6 +46,10 @@ part-mark-list-start c = search needs
 part-mark-list-end : tie.Need-part-mark-list-end
 part-mark-list-end c = search needs
 
+row-of-requires-2 : tie.Need-row-of-requires-2
+unfolding rows
+row-of-requires-2 c κs = omega arith
+
 mark-list-requires-2 : tie.Need-mark-list-requires-2
 mark-list-requires-2 c κs = search needs
 
@@ -49,18 +58,20 @@ pick-requires c κs = search needs
 
 returns-2 : tie.Need-returns-2
 returns-2 c =
-    let tested = c .before .before .before .before .before in
+    let tested = c .before .before .before .before .before .before .before in
     let args = tested .before .before .before .args in
     let body = now (args .body) in
-    let head = c .before .before .before .mark-list in
+    let head = c .before .before .before .before .mark-list in
     let facts = c .before .mark-list2 in
+    let first = c .before .before .before .before .before .row-of .ensures in
+    let second = c .before .before .row-of2 .ensures in
     rw (clause-tests, le-ltb _ _ (tested .before .if1 .left), tested .if2 .left)
     (c .pick .ensures
     ∙ ap code
     (sym
-    (picked-more (args .longest) (args .facts) (args .marks) (head .result) (take 2 body) (head .ensures) (some (words (drop 2 body) ∷ []))
-    ∙ picked-more (args .longest) (args .facts) (head .result) (facts .result) (drop 2 body) (rw rest-of at (facts .ensures)) (some [])
-    ∙ picked-end (args .longest) (args .facts) (facts .result))))
+    (picked-more _ _ (take 2 body) first (head .ensures) (some (words (drop 2 body) ∷ []))
+    ∙ picked-more _ _ (drop 2 body) second (rw rest-of at (facts .ensures)) (some [])
+    ∙ picked-end _ _)))
 
 pub clause-number-spec : {M : Type 1} → statement M
 clause-number-spec =
@@ -68,10 +79,12 @@ clause-number-spec =
     (tie.spec
     returns
     slice-aggregate-mark-list
+    row-of-requires
     mark-list-requires
     sub-mark-list
     part-mark-list-start
     part-mark-list-end
+    row-of-requires-2
     mark-list-requires-2
     pick-requires
     returns-2)

@@ -1,4 +1,5 @@
--- `records::first_fault` meets its contract. The loop's invariant: the answer for the section is that of a judge who has come to record n, at its place.
+-- `records::first_fault` meets its contract. The loop's invariant: the answer for the section is that of a judge who
+-- has come to record n, at its place.
 use Prim.Native.Nat.{_+_, _-_, _≤_, _<_, zero-le}
 use mathlib.Core.Path.{_≡_, _∙_, sym}
 use native.Mathlib.Omega.{arith}
@@ -16,7 +17,8 @@ abbrev Inv-loop : tie.InvT-loop
 Inv-loop section kind facts at₀ n₀ at n =
     (n ≤ at)
     × (at ≤ length section)
-    × (found (firstFault (judge kind facts) section) (length (records section)) ≡ answerFrom (judge kind facts) section n at)
+    × (found (firstFault (judge kind facts) section) (length (records section))
+    ≡ answerFrom (judge kind facts) section n at)
 
 abbrev μ-loop : tie.MeasureT-loop
 μ-loop section kind facts at₀ n₀ at n = length section - at
@@ -33,11 +35,10 @@ record-number-requires c κs = search needs
 returns : tie.Need-returns Inv-loop μ-loop
 returns c =
     let loop = c .before .before .before .before .loop in
-    let args = c .before .before .before .before .before .before .args in
-    let call = c .before .before .record-at in
     let number = c .before .record-number in
     sym (loop .inv .2
-    ∙ answer-fault (judge (args .kind) (args .facts)) (now (args .section)) (loop .n) (loop .at) (now (call .result)) (call .ensures) (c .before .before .before .loop-test .taken) (number .result) (refused _ _ (number .ensures) (c .if1 .taken)))
+    ∙ answer-fault _ _ (loop .n) (loop .at) _ (c .before .before .record-at .ensures)
+    (c .before .before .before .loop-test .taken) (number .result) (refused _ _ (number .ensures) (c .if1 .taken)))
 
 -- the next place
 further : (c : tie.Else1 Inv-loop μ-loop)
@@ -58,13 +59,12 @@ loop-less c = omega (arith, further c)
 loop-again : tie.Need-loop-again Inv-loop μ-loop
 loop-again c =
     let loop = c .before .before .before .before .loop in
-    let args = c .before .before .before .before .before .before .args in
-    let call = c .before .before .record-at in
     let number = c .before .record-number in (
       omega (arith, further c),
       further c .1,
       loop .inv .2
-          ∙ answer-next (judge (args .kind) (args .facts)) (now (args .section)) (loop .n) (loop .at) (now (call .result)) (call .ensures) (c .before .before .before .loop-test .taken) (passed _ _ _ _ (sym (c .if1 .left) ∙ number .ensures)),
+          ∙ answer-next _ _ (loop .n) (loop .at) _ (c .before .before .record-at .ensures)
+          (c .before .before .before .loop-test .taken) (passed _ _ _ _ (sym (c .if1 .left) ∙ number .ensures)),
     )
 
 returns-2 : tie.Need-returns-2 Inv-loop μ-loop

@@ -1,16 +1,18 @@
--- `records::mark_list` meets its contract. The loop's invariant: the marks at the start with the whole list give what the marks at hand give with the numbers still to come.
+-- `records::mark_list` meets its contract. The loop's invariant: the marks at the start with the whole list give what
+-- the marks at hand give with the numbers still to come.
 use Prim.Native.Nat.{ℕ, _+_, _-_, _≤_, zero-le}
 use mathlib.Core.Path.{_≡_, refl, _∙_, sym, ap}
 use mathlib.Core.Logic.{⊎-elim, inl, inr}
 use mathlib.Core.List.{List, [], _∷_}
 use mathlib.Core.Bool.{Bool, _||_, or-false}
 use native.Mathlib.Omega.{arith}
-use lib.Dec.{leb, ltb}
+use lib.Dec.{leb}
 use lib.ListN.{length, drop, length-drop}
 use borrow.Author.Tests.{le-leb, lt-leb, le-ltb, lt-ltb}
 use denote.Ref.{now}
 use Rattle.sets.specs.Sets.{any}
 use Rattle.records.specs.Words.{words}
+use Rattle.records.specs.Records.{tooLong}
 use Rattle.records.specs.Contracts.{Marked}
 use Rattle.records.proofs.Words.{word-small, words-at, words-none, length-words}
 use Rattle.records.proofs.Lists.{marked, brokenFrom, not-ascending}
@@ -18,13 +20,13 @@ use Rattle.records.proofs.mark_list.Statement.{statement}
 use Rattle.records.proofs.mark_list.Tie as tie
 
 abbrev Inv-loop : tie.InvT-loop
-Inv-loop list longest facts marks fact₀ order₀ floor₀ at₀ fact order floor at =
+Inv-loop list row marks fact₀ order₀ floor₀ at₀ fact order floor at =
     (at ≤ length list)
-    × ((marks .fact || any (leb facts) (words list)) ≡ (fact || any (leb facts) (words (drop at list))))
+    × ((marks .fact || any (leb (row .limit)) (words list)) ≡ (fact || any (leb (row .limit)) (words (drop at list))))
     × ((marks .order || brokenFrom 0 (words list)) ≡ (order || brokenFrom floor (words (drop at list))))
 
 abbrev μ-loop : tie.MeasureT-loop
-μ-loop list longest facts marks fact₀ order₀ floor₀ at₀ fact order floor at = length list - at
+μ-loop list row marks fact₀ order₀ floor₀ at₀ fact order floor at = length list - at
 
 loop-holds : tie.Need-loop-holds Inv-loop μ-loop
 loop-holds c = (zero-le, refl, refl)
@@ -38,7 +40,8 @@ word-at-requires c κs = omega arith
 add-floor : tie.Need-add-floor Inv-loop μ-loop
 add-floor c =
     let known = c .before .before .before .before .before in
-    omega (arith, word-small (now (known .before .args .list)) (c .before .before .before .before .loop .at) (known .shared-slice-known .given))
+    let at = c .before .before .before .before .loop .at in
+    omega (arith, word-small (now (known .before .args .list)) at (known .shared-slice-known .given))
 
 add-at : tie.Need-add-at Inv-loop μ-loop
 add-at c = omega arith
@@ -55,21 +58,27 @@ loop-again c =
     let list = now (start .args .list) in
     let f = call .result in
     let later = words (drop (loop .at + 2) list) in
-    let next : words (drop (loop .at) list) ≡ f ∷ later = rw (call .ensures) (words-at list (loop .at) (rw length-drop (omega arith))) in (
+    let more : 2 ≤ length (drop (loop .at) list) = rw length-drop (omega arith) in
+    let next : words (drop (loop .at) list) ≡ f ∷ later = rw (call .ensures) (words-at list (loop .at) more) in (
       omega arith,
       loop .inv .1
-          ∙ ap (λ (l : List ℕ). loop .fact || any (leb (start .args .facts)) l) next
-          ∙ marked _ _ _ _ (⊎-elim (λ w. inl (le-leb _ _ (w .0 .taken), w .1)) (λ w. inr (lt-leb _ _ (w .0 .left), w .1)) (c .before .if1 .came)),
+          ∙ ap (λ (l : List ℕ). loop .fact || any (leb (start .args .row .limit)) l) next
+          ∙ marked _ _ _ _
+          (⊎-elim (λ w. inl (le-leb _ _ (w .0 .taken), w .1)) (λ w. inr (lt-leb _ _ (w .0 .left), w .1))
+          (c .before .if1 .came)),
       loop .inv .2
           ∙ ap (λ (l : List ℕ). loop .order || brokenFrom (loop .floor) l) next
-          ∙ marked _ _ _ _ (⊎-elim (λ w. inl (lt-ltb _ _ (w .0 .taken), w .1)) (λ w. inr (le-ltb _ _ (w .0 .left), w .1)) (c .if2 .came)),
+          ∙ marked _ _ _ _
+          (⊎-elim (λ w. inl (lt-ltb _ _ (w .0 .taken), w .1)) (λ w. inr (le-ltb _ _ (w .0 .left), w .1))
+          (c .if2 .came)),
     )
 
 -- after the loop no number is left, so the two marks are those of the whole list
 whole-list : (c : tie.After-loop Inv-loop μ-loop) (count : Bool)
     → let args = c .before .before .before .args in
-    count ≡ (args .marks .count || ltb (args .longest) (length (words (now (args .list)))))
-    → Marked (now (args .list)) (args .longest) (args .facts) (args .marks) (record { count = count; fact = c .before .loop .fact; order = c .before .loop .order })
+    count ≡ (args .marks .count || tooLong (args .row) (words (now (args .list))))
+    → Marked (now (args .list)) (args .row) (args .marks)
+    (record { count = count; fact = c .before .loop .fact; order = c .before .loop .order })
 unfolding any brokenFrom
 whole-list c count e =
     let loop = c .before .loop in

@@ -1,6 +1,5 @@
 -- `numbers_number` meets its contract: an odd byte is 4, else the marks of the whole as one list tell.
 use mathlib.Core.Path.{_∙_, sym, ap}
-use denote.Ref.{now}
 use borrow.Author.Tests.{eq-eqb, ne-eqb}
 use borrow.Author.Needs.{needs}
 use Rattle.records.specs.Answers.{code}
@@ -12,9 +11,6 @@ returns : tie.Need-returns
 unfolding code
 returns c = rw (bare-odd _ _ (eq-eqb _ _ (c .if1 .taken)))
 
-beyond-requires : tie.Need-beyond-requires
-beyond-requires c κs = search needs
-
 mark-list-requires : tie.Need-mark-list-requires
 mark-list-requires c κs = search needs
 
@@ -23,14 +19,9 @@ pick-requires c κs = search needs
 
 returns-2 : tie.Need-returns-2
 returns-2 c =
-    let tested = c .before .before .before in
-    let args = tested .before .before .args in
     let marked = c .before .mark-list in
-    c .pick .ensures
-    ∙ ap code
-    (sym
-    (bare-even (args .facts) (now (args .bytes)) (marked .result) (ne-eqb _ _ (tested .if1 .left))
-    (rw (c .before .before .beyond .ensures) at (marked .ensures))))
+    let even = ne-eqb _ _ (c .before .before .if1 .left) in
+    c .pick .ensures ∙ ap code (sym (bare-even _ _ (marked .result) even (marked .ensures)))
 
 pub numbers-number-spec : {M : Type 1} → statement M
-numbers-number-spec = tie.close (tie.spec returns beyond-requires mark-list-requires pick-requires returns-2)
+numbers-number-spec = tie.close (tie.spec returns mark-list-requires pick-requires returns-2)

@@ -14,18 +14,22 @@ use Rattle.records.proofs.place.Statement.{statement}
 use Rattle.records.proofs.place.Tie as tie
 
 abbrev Inv-loop : tie.InvT-loop
-Inv-loop section n at₀ left₀ at left = (at ≤ length section) × (placeOf n (records section) ≡ at + placeOf left (records (drop at section)))
+Inv-loop section n at₀ left₀ at left =
+    (at ≤ length section) × (placeOf n (records section) ≡ at + placeOf left (records (drop at section)))
 
 abbrev μ-loop : tie.MeasureT-loop
 μ-loop section n at₀ left₀ at left = left
 
 -- the record at hand starts within the section
-within : (c : tie.After-record-at Inv-loop μ-loop) → c .before .before .before .loop .at < length (now (c .before .before .before .before .before .args .section))
+within : (c : tie.After-record-at Inv-loop μ-loop)
+    → let section = now (c .before .before .before .before .before .args .section) in
+    c .before .before .before .loop .at < length section
 within c = ltb-true _ _ (c .before .if1 .taken)
 
 -- and ends within it
 after : (c : tie.After-record-at Inv-loop μ-loop)
-    → c .before .before .before .loop .at + length (now (c .record-at .result)) ≤ length (now (c .before .before .before .before .before .args .section))
+    → let section = now (c .before .before .before .before .before .args .section) in
+    c .before .before .before .loop .at + length (now (c .record-at .result)) ≤ length section
 after c = place-after _ _ _ (c .record-at .ensures) (within c) .1
 
 loop-holds : tie.Need-loop-holds Inv-loop μ-loop
@@ -44,7 +48,10 @@ loop-less : tie.Need-loop-less Inv-loop μ-loop
 loop-less c = omega arith
 
 loop-again : tie.Need-loop-again Inv-loop μ-loop
-loop-again c = (after c, c .before .before .before .loop .inv .1 ∙ place-pass _ _ _ _ (c .record-at .ensures) (within c) (omega arith))
+loop-again c = (
+  after c,
+  c .before .before .before .loop .inv .1 ∙ place-pass _ _ _ _ (c .record-at .ensures) (within c) (omega arith),
+)
 
 returns : tie.Need-returns Inv-loop μ-loop
 returns c = sym (c .before .before .loop .inv .1 ∙ place-end _ _ _ (ltb-false _ _ (c .if1 .left)))

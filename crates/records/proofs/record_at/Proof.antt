@@ -25,7 +25,8 @@ returns : tie.Need-returns
 unfolding recordOf
 returns c =
     let section = now (c .before .before .before .args .section) in
-    rest-of section (length section) ∙ drop-length section ∙ sym (ap recordOf (drop-of-length-le section (c .before .if1 .taken)))
+    let past = drop-of-length-le section (c .before .if1 .taken) in
+    rest-of section (length section) ∙ drop-length section ∙ sym (ap recordOf past)
 
 sub-rest : tie.Need-sub-rest
 sub-rest c = search needs

@@ -1,25 +1,32 @@
 -- Laws on the end of a run: what the search over the steps leaves and what is asked of the last state make the outcome.
-use Prim.Native.Nat.{ℕ, _+_, _≤_}
+use Prim.Native.Nat.{ℕ, _+_, _<_}
 use mathlib.Core.Path.{_≡_, refl, sym, ap, _∙_, fun-ext}
-use mathlib.Core.List.{List}
+use mathlib.Core.List.{List, [], List·Memᴰ·head, Memᴰ·append-right}
+use mathlib.Core.Logic.{_⊎_, inl, inr}
 use mathlib.Core.Option.{none, some}
 use native.Mathlib.Omega.{arith}
-use lib.ListN.{length, drop}
-use Rattle.sets.specs.Sets.{Facts, size}
+use lib.ListN.{length, getD, drop}
+use Rattle.sets.specs.Sets.{Facts, size, _∈_}
+use Rattle.sets.proofs.Laws.{getD-in}
 use Rattle.meaning.specs.Model.{Model}
-use Rattle.meaning.specs.Rounds.{rounds, closure}
-use Rattle.meaning.specs.Run.{Condition, Reached, Outcome, conditions, unmet, asked, ending, outcomeOf, run}
+use Rattle.meaning.specs.Rounds.{rounds, closure, roundNumber}
+use Rattle.meaning.specs.Run.{Condition, Reached, Ending, Outcome, conditions, unmet, asked, ending, outcomeOf, run}
+use Rattle.meaning.specs.Run.Condition.{positive, negative}
 use Rattle.meaning.specs.Run.Ending.{attack, blocked, notMet}
+use Rattle.meaning.specs.Promises.{FirstUnmet, absent, present}
+use Rattle.meaning.specs.Promises.EndsSo.{attack as so-attack, blocked as so-blocked, notMet as so-notMet}
+use Rattle.meaning.proofs.Theorems.{run-is}
 use Rattle.meaning.proofs.Runs.{Below, run-below, size-below}
 use Rattle.meaning.specs.Model.{goalOf}
 use Rattle.facts.specs.Facts.{members, Kept}
 use Rattle.facts.proofs.Laws.{kept-same, kept-trans}
-use Rattle.files.specs.Files.{shapeFault, modelOf, traceOf}
-use Rattle.files.proofs.Laws.{facts-bound, initial-below}
+use Rattle.files.specs.Files.{factCount, pairFault, shapeFault, modelOf, traceOf}
+use Rattle.files.proofs.Laws.{facts-bound, initial-below, rule-below, goal-below}
+use Rattle.files.proofs.Traces.{pair-shape, pair-named, pair-step-known, pair-goal-known}
 use Rattle.files.proofs.Lists.{added-below}
 use Rattle.closing.specs.Closing.{Filled, numbered, ClosesUnder}
-use Rattle.checking.specs.Verdict.{Lent, outcome, Left}
-use Rattle.checking.specs.Running.{conditionOf, unmetOf, endingOf, reached, counted, StepsTo, askedIn, EndsAs}
+use Rattle.checking.specs.Verdict.{Lent, factIn, roundIn, outcome, Left}
+use Rattle.checking.specs.Running.{conditionOf, unmetOf, endingOf, reached, counted, StepsTo, askedIn, KnownIn, Numbers, EndsAs}
 use Rattle.checking.specs.declared.conditions.Condition.the-variants as condition
 use Rattle.checking.specs.declared.conditions.Unmet.the-variants as found
 use Rattle.checking.specs.declared.running.Ending.the-variants as ends
@@ -130,3 +137,55 @@ module _ (m t : List ℕ) where
   held-is fine state e h =
       let below = run-below (modelOf m) (traceOf t) (initial-below m fine) (added-below m fine) in
       h ∙ ap (λ X. size X 4096) (fun-ext e) ∙ size-below _ _ 4096 (facts-bound m fine) below
+
+-- ---- the condition that a run ends with
+
+-- The first unmet condition is a fact of P or of N.
+first-known : {X : Facts} {P N : List ℕ} {c : Condition} → FirstUnmet X P N c → (F : ℕ) → ((f : ℕ) → f ∈ P → f < F)
+    → ((f : ℕ) → f ∈ N → f < F) → factIn c < F
+unfolding factIn
+first-known u F p n = elim u [
+  | absent met rest e _ _ ↦ p _ (rw e (Memᴰ·append-right met (List·Memᴰ·head refl)))
+  | present _ met rest e _ _ ↦ n _ (rw e (Memᴰ·append-right met (List·Memᴰ·head refl)))
+]
+
+-- the ending has this condition
+abbrev EndsWith : Ending → Condition → Type 0
+EndsWith x c = (x ≡ blocked c) ⊎ (x ≡ notMet c)
+
+not-attack : {x : Ending} {c : Condition} → x ≡ attack → EndsWith x c → ⊥
+not-attack e (inl q) = let z : _≡_ {A = ℕ} 0 1 = cc in omega arith
+not-attack e (inr q) = let z : _≡_ {A = ℕ} 0 1 = cc in omega arith
+
+of-blocked : {x : Ending} {c d : Condition} → x ≡ blocked d → EndsWith x c → d ≡ c
+of-blocked e (inl q) = cc
+of-blocked e (inr q) = let z : _≡_ {A = ℕ} 0 1 = cc in absurd (omega arith)
+
+of-notMet : {x : Ending} {c d : Condition} → x ≡ notMet d → EndsWith x c → d ≡ c
+of-notMet e (inl q) = let z : _≡_ {A = ℕ} 0 1 = cc in absurd (omega arith)
+of-notMet e (inr q) = cc
+
+-- Its fact is one that a table has an entry for.
+pub ending-known : (m t : List ℕ) → pairFault m t ≡ none → (c : Condition) → EndsWith (outcome m t .ending) c → KnownIn c
+unfolding outcome KnownIn
+ending-known m t fine c told =
+    let M = modelOf m in
+    let shape = pair-shape m t fine in
+    elim (run-is M (traceOf t) (pair-named m t fine) .ends) [
+      | so-attack e _ _ ↦ absurd (not-attack e told)
+      | so-blocked d e h X hc u ↦
+          let r = rule-below m shape _ (getD-in (M .rules) _ (record { P = []; N = []; A = [] }) (pair-step-known m t fine _ h)) in
+          let small : factIn d < factCount m = first-known u (factCount m) (r .0) (r .1) in
+          rw (← of-blocked e told) (omega (arith, facts-bound m shape))
+      | so-notMet d e h X hc u ↦
+          let g = goal-below m shape _ (getD-in (M .goals) _ (record { P = []; N = [] }) (pair-goal-known m t fine)) in
+          let small : factIn d < factCount m = first-known u (factCount m) (g .0) (g .1) in
+          rw (← of-notMet e told) (omega (arith, facts-bound m shape))
+    ]
+
+-- Its round in the table is its round.
+pub round-is : (m : Model) (o : Outcome) {table : List ℕ} → Numbers m o table → (c : Condition) → KnownIn c
+    → roundIn (λ f. getD table f 0) c ≡ roundIn (roundNumber (m .clauses) (o .state .facts)) c
+unfolding roundIn KnownIn factIn
+round-is m o n (positive f) h = refl
+round-is m o n (negative f) h = n .entries f h

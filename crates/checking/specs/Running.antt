@@ -10,7 +10,7 @@ use Rattle.meaning.specs.Model.{Model, goalOf, start}
 use Rattle.meaning.specs.Run.{Condition, Reached, Ending, Outcome, conditions, unmet, reach}
 use Rattle.meaning.specs.Run.Condition.{positive, negative}
 use Rattle.meaning.specs.Run.Ending.{attack, blocked, notMet}
-use Rattle.meaning.specs.Rounds.{rounds}
+use Rattle.meaning.specs.Rounds.{rounds, roundNumber}
 use Rattle.facts.specs.Facts.{members, Kept}
 use Rattle.files.specs.Files.{pairFault, modelOf, traceOf}
 use Rattle.closing.specs.Closing.{Filled}
@@ -87,6 +87,11 @@ pub record Shows (o : Outcome) (steps : ℕ) (e : Ended) (held : ℕ) : Type 0 w
   pub step : e .step ≡ o .step
   pub rounds : e .rounds ≡ o .rounds
   pub held-is : held ≡ o .held
+
+-- the table has the round numbers of the last state
+pub record Numbers (m : Model) (o : Outcome) (table : List ℕ) : Type 0 where
+  pub long : 4096 ≤ length table
+  pub entries : (f : ℕ) → f < 4096 → getD table f 0 ≡ roundNumber (m .clauses) (o .state .facts) f
 
 -- what the run has come to, and the last state and its round numbers
 pub record EndsAs (m t : List ℕ) (before after : Lent) (e : Ended) : Type 0 where

@@ -6,6 +6,7 @@ use mathlib.Core.List.{List}
 use mathlib.Core.Option.{Option, none, some, Option·map}
 use lib.ListN.{length}
 use Rattle.meaning.specs.Model.{Model}
+use Rattle.meaning.specs.Rounds.{roundNumber}
 use Rattle.meaning.specs.Run.{Condition, Ending, Outcome, run}
 use Rattle.meaning.specs.Run.Condition.{positive, negative}
 use Rattle.meaning.specs.Run.Ending.{attack, blocked, notMet}
@@ -30,9 +31,10 @@ pub record Lent : Type 0 where
 abbrev pub nothing : Part
 nothing = record { mark = 0; start = 0; size = 0 }
 
--- a refusal: "step .. otherwise 0", "fact .. otherwise 65,535", "rounds .. 0 for 1 to 9", "held .. 0 for 1 to 9"
+-- a refusal: "step .. otherwise 0", "fact .. otherwise 65,535", "rounds .. 0 for 1 to 9", "held .. 0 for 1 to 9"; no kind, no round
 unfoldable pub refused : ℕ → Part → Verdict
-refused number part = record { number = number; step = 0; fact = 65535; rounds = 0; held = 0; part = part }
+refused number part =
+    record { number = number; step = 0; fact = 65535; rounds = 0; held = 0; kind = 0; round = 65535; part = part }
 
 -- the fault of a pair as a verdict
 unfoldable pub blamed : Blamed → Verdict
@@ -64,6 +66,30 @@ factOf attack = 65535
 factOf (blocked c) = factIn c
 factOf (notMet c) = factIn c
 
+-- document 02, wish 7: "whether the unmet one was positive or negative": 1 is positive, 2 negative
+unfoldable pub kindIn : Condition → ℕ
+kindIn (positive f) = 1
+kindIn (negative f) = 2
+
+-- 0 "where there is no value"
+unfoldable pub kindOf : Ending → ℕ
+unfolding kindIn
+kindOf attack = 0
+kindOf (blocked c) = kindIn c
+kindOf (notMet c) = kindIn c
+
+-- "if negative, the round in which its fact arose", by the round numbers of the state in which it was judged
+unfoldable pub roundIn : (ℕ → ℕ) → Condition → ℕ
+roundIn number (positive f) = 65535
+roundIn number (negative f) = number f
+
+-- 65,535 "where there is no value"
+unfoldable pub roundOf : (ℕ → ℕ) → Ending → ℕ
+unfolding roundIn
+roundOf number attack = 65535
+roundOf number (blocked c) = roundIn number c
+roundOf number (notMet c) = roundIn number c
+
 -- "9 and 10: the two bytes in the trace. 11: the attack state's record.": the blocked step's entry stands after the attack state's
 unfoldable pub partFor : List ℕ → List ℕ → ℕ → Ending → Part
 unfolding entryPart goalPart traceOf
@@ -80,13 +106,15 @@ outcome m t = run (modelOf m) (traceOf t)
 
 -- an outcome as a verdict
 unfoldable pub ran : List ℕ → List ℕ → Outcome → Verdict
-unfolding numberOf factOf partFor
+unfolding numberOf factOf kindOf roundOf roundNumber partFor
 ran m t o = record {
   number = numberOf (o .ending);
   step = o .step;
   fact = factOf (o .ending);
   rounds = o .rounds;
   held = o .held;
+  kind = kindOf (o .ending);
+  round = roundOf (roundNumber (modelOf m .clauses) (o .state .facts)) (o .ending);
   part = partFor m t (o .step) (o .ending);
 }
 

@@ -1,13 +1,13 @@
 // Conditions of rules and attack states, judged in the round table of a state. The caller has judged the files.
 ghost use mathlib.Core.Path.{_≡_};
-ghost use mathlib.Core.List.{_++_};
-ghost use Prim.Native.Nat.{ℕ, _+_, _/_, _≤_, _<_};
+ghost use Prim.Native.Nat.{_+_, _/_, _≤_, _<_};
 ghost use lib.ListN.{length, getD};
 ghost use Rattle.meaning.specs.Run.{met, conditions, unmet};
 ghost use Rattle.meaning.specs.Run.Condition.{positive};
 ghost use Rattle.records.specs.Words.{words};
 ghost use Rattle.closing.specs.Closing.{numbered};
 ghost use Rattle.files.specs.Known.{Known};
+ghost use Rattle.checking.specs.Verdict.{factIn, kindIn, roundIn};
 ghost use Rattle.checking.specs.Running.{conditionOf, unmetOf, KnownIn};
 
 // A condition with its fact: of P, which must be in the closure, or of N, which must not.
@@ -68,4 +68,35 @@ pub fn first_unmet(p: &[u8], n: &[u8], table: &[u16]) -> Unmet
         i += 1;
     }
     Unmet::Nowhere
+}
+
+// A condition's fact.
+pub fn fact_of(c: Condition) -> usize
+    ensures { λ r. ⌜ r ≡ factIn (conditionOf c) ⌝ }
+{
+    match c {
+        Condition::Positive(f) => f,
+        Condition::Negative(f) => f,
+    }
+}
+
+// Its kind: 1 positive, 2 negative.
+pub fn kind_of(c: Condition) -> u8
+    ensures { λ r. ⌜ r ≡ kindIn (conditionOf c) ⌝ }
+{
+    match c {
+        Condition::Positive(_) => 1,
+        Condition::Negative(_) => 2,
+    }
+}
+
+// The round in which a negative condition's fact arose; a positive one has none.
+pub fn round_of(c: Condition, table: &[u16]) -> usize
+    requires { ⌜ KnownIn (conditionOf c) × (4096 ≤ length (now table)) ⌝ }
+    ensures { λ r. ⌜ r ≡ roundIn (λ f. getD (now (table .entry)) f 0) (conditionOf c) ⌝ }
+{
+    match c {
+        Condition::Positive(_) => 65535,
+        Condition::Negative(f) => table[f] as usize,
+    }
 }

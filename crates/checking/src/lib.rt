@@ -11,13 +11,16 @@ use files::Pair;
 use files::Part;
 use files::both;
 
-// Document 01's verdict: its number and the four values that the line shows, and the part at fault.
+// Document 01's verdict: its number and the values that the line shows, and the part at fault. An unmet condition has a kind, 1 positive
+// or 2 negative, and a negative one the round in which its fact arose; 0 and 65,535 stand for none.
 pub struct Verdict {
     pub number: u8,
     pub step: usize,
     pub fact: usize,
     pub rounds: usize,
     pub held: usize,
+    pub kind: u8,
+    pub round: usize,
     pub part: Part,
 }
 
@@ -31,6 +34,8 @@ fn refuse(number: u8, part: Part) -> Verdict
         fact: 65535,
         rounds: 0,
         held: 0,
+        kind: 0,
+        round: 65535,
         part,
     }
 }

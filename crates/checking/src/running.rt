@@ -8,8 +8,8 @@ ghost use Rattle.sets.specs.Sets.{listed};
 ghost use Rattle.facts.specs.Facts.{members};
 ghost use Rattle.files.specs.Files.{pairFault, modelOf, traceOf};
 ghost use Rattle.closing.specs.Closing.{numbered};
-ghost use Rattle.checking.specs.Verdict.{factIn, outcome, ran, Left};
-ghost use Rattle.checking.specs.Running.{Ready, StepsTo, EndsAs, Shows, conditionOf, endingOf, askedIn};
+ghost use Rattle.checking.specs.Verdict.{outcome, ran, Left};
+ghost use Rattle.checking.specs.Running.{Ready, StepsTo, EndsAs, Shows, Numbers, endingOf, askedIn};
 use super::Verdict;
 use super::conditions;
 use super::conditions::Condition;
@@ -126,19 +126,10 @@ fn finish(model: &[u8], trace: &[u8], reached: Steps, state: &[u8], table: &mut 
     }
 }
 
-// A condition's fact.
-fn fact_of(c: Condition) -> usize
-    ensures { λ r. ⌜ r ≡ factIn (conditionOf c) ⌝ }
-{
-    match c {
-        Condition::Positive(f) => f,
-        Condition::Negative(f) => f,
-    }
-}
-
-// The verdict of a run that ended so, with the number of facts held.
-fn verdict(model: &[u8], trace: &[u8], ended: Ended, held: usize) -> Verdict
-    requires { ⌜ (pairFault (now model) (now trace) ≡ none) × Shows (outcome (now model) (now trace)) (length (traceOf (now trace) .steps)) ended held ⌝ }
+// The verdict of a run that ended so, with the facts held and the round numbers of the last state.
+fn verdict(model: &[u8], trace: &[u8], ended: Ended, held: usize, table: &[u16]) -> Verdict
+    requires { ⌜ (pairFault (now model) (now trace) ≡ none) × Shows (outcome (now model) (now trace)) (length (traceOf (now trace) .steps)) ended held
+        × Numbers (modelOf (now model)) (outcome (now model) (now trace)) (now table) ⌝ }
     ensures { λ r. ⌜ r ≡ ran (now (model .entry)) (now (trace .entry)) (outcome (now (model .entry)) (now (trace .entry))) ⌝ }
 {
     let step = ended.step;
@@ -151,6 +142,8 @@ fn verdict(model: &[u8], trace: &[u8], ended: Ended, held: usize) -> Verdict
             fact: 65535,
             rounds,
             held,
+            kind: 0,
+            round: 65535,
             part: Part {
                 mark: 0,
                 start: 0,
@@ -160,17 +153,21 @@ fn verdict(model: &[u8], trace: &[u8], ended: Ended, held: usize) -> Verdict
         Ending::Blocked(c) => Verdict {
             number: 10,
             step,
-            fact: fact_of(c),
+            fact: conditions::fact_of(c),
             rounds,
             held,
+            kind: conditions::kind_of(c),
+            round: conditions::round_of(c, table),
             part: trace::entry_part(trace, 1 + step),
         },
         Ending::NotMet(c) => Verdict {
             number: 11,
             step,
-            fact: fact_of(c),
+            fact: conditions::fact_of(c),
             rounds,
             held,
+            kind: conditions::kind_of(c),
+            round: conditions::round_of(c, table),
             part: held::goal_part(model, records::word_at(held::entries(trace), 0)),
         },
     }
@@ -187,5 +184,5 @@ pub fn run(model: &[u8], trace: &[u8], state: &mut [u8], table: &mut [u16]) -> V
     stepping::begin(held::section(model, Role::Initial), state);
     let reached = search(model, trace, state, table);
     let ended = finish(model, trace, reached, state, table);
-    verdict(model, trace, ended, facts::count(state, 512))
+    verdict(model, trace, ended, facts::count(state, 512), table)
 }

@@ -59,22 +59,27 @@ count-requires c κs = search needs
 
 verdict-requires : tie.Need-verdict-requires
 verdict-requires c κs =
-    let f = c .before .before .before .before in
+    let f = c .before .before .before .before .before in
     let s = start (begun (found-of f) .before .before) in
-    let ended = f .finish .ensures in (
+    let ended = f .finish .ensures in
+    let table = ended .left .rounds in (
       s .pre .fine,
       record {
         within = ended .within;
         ending = ended .ending;
         step = ended .step;
         rounds = ended .rounds;
-        held-is = held-is _ _ (pair-shape _ _ (s .pre .fine)) _ (ended .left .facts) (c .count .ensures);
+        held-is = held-is _ _ (pair-shape _ _ (s .pre .fine)) _ (ended .left .facts) (c .before .count .ensures);
+      },
+      record {
+        long = omega (arith, table .as-long, found-of f .search .ensures .as-long, s .pre .entries);
+        entries = table .entries;
       },
     )
 
 same-length : tie.Need-same-length
 same-length c =
-    let f = c .before .before .before .before .before in
+    let f = c .before .before .before .before .before .before in
     found-of f .search .ensures .kept .as-long ∙ begun (found-of f) .begin .ensures .kept .as-long
 
 same-length-2 : tie.Need-same-length-2
@@ -82,7 +87,7 @@ same-length-2 c = search needs
 
 returns : tie.Need-returns
 returns c =
-    let f = c .before .before .before .before .before in
+    let f = c .before .before .before .before .before .before in
     let led = found-of f .search .ensures in
     let kept = kept-trans (begun (found-of f) .begin .ensures .kept) (led .kept) in
     (c .verdict .ensures, left-from kept (led .as-long) (led .beyond) (f .finish .ensures .left))

@@ -1,9 +1,9 @@
--- `running::fact_of` meets its contract: one case for each kind.
+-- `conditions::fact_of` meets its contract: one case for each kind.
 use Rattle.checking.specs.Verdict.{factIn}
 use Rattle.checking.specs.Running.{conditionOf}
 use borrow.Author.Needs.{needs}
-use Rattle.checking.proofs.running.fact_of.Statement.{statement}
-use Rattle.checking.proofs.running.fact_of.Tie as tie
+use Rattle.checking.proofs.conditions.fact_of.Statement.{statement}
+use Rattle.checking.proofs.conditions.fact_of.Tie as tie
 
 enum-known-c : tie.Need-enum-known-c
 enum-known-c c = search needs

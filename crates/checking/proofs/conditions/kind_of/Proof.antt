@@ -1,0 +1,23 @@
+-- `conditions::kind_of` meets its contract: one case for each kind.
+use Rattle.checking.specs.Verdict.{kindIn}
+use Rattle.checking.specs.Running.{conditionOf}
+use borrow.Author.Needs.{needs}
+use Rattle.checking.proofs.conditions.kind_of.Statement.{statement}
+use Rattle.checking.proofs.conditions.kind_of.Tie as tie
+
+enum-told : tie.Need-enum-told
+enum-told c = search needs
+
+enum-told-2 : tie.Need-enum-told-2
+enum-told-2 c = search needs
+
+returns : tie.Need-returns
+unfolding kindIn conditionOf
+returns c = rw (c .enum-told .given .1)
+
+returns-2 : tie.Need-returns-2
+unfolding kindIn conditionOf
+returns-2 c = rw (c .enum-told2 .given .1)
+
+pub kind-of-spec : {M : Type 1} → statement M
+kind-of-spec = tie.close (tie.spec enum-told enum-told-2 returns returns-2)

@@ -4,3 +4,9 @@ pub mod Stepwise
 pub mod Ends
 pub mod Verdicts
 pub mod Checks
+pub mod Refusals
+pub mod Causes
+pub mod Parts
+pub mod Naming
+pub mod Theorems
+pub mod Cases

@@ -1,3 +1,5 @@
 pub mod Stepping
 pub mod Verdict
 pub mod Running
+pub mod Promises
+pub mod Cases

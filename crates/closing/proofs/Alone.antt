@@ -4,7 +4,7 @@ use mathlib.Core.Path.{_≡_, refl, sym, ap, _∙_, subst}
 use mathlib.Core.Logic.{_⊎_, inl, inr, ⊎-elim}
 use mathlib.Core.Bool.{Bool, true, false, true≢false, _&&_, or-true}
 use mathlib.Core.List.{List}
-use mathlib.Core.Option.{Option, none, some}
+use mathlib.Core.Option.{Option, none, some, Option·map, Option·none-ne-some}
 use native.Mathlib.Nat.{lt-of-le-of-lt}
 use native.Mathlib.Omega.{arith}
 use borrow.Author.Tests.{lt-ltb, le-ltb, le-leb, leb-true}
@@ -21,6 +21,7 @@ use Rattle.sections.specs.Sections.{tooLong, wrongVersion}
 use Rattle.files.specs.Files.{factCount, modelOf, shapeFault, modelFault, modelBytes}
 use Rattle.sections.proofs.Fits.{neither}
 use Rattle.files.proofs.Laws.{facts-bound, clauses-bound, clause-below}
+use Rattle.files.proofs.Causes.{model-fault-range}
 use Rattle.closing.specs.Closing.{Bounded, ClosesUnder, noRoom, someFrom, closeRefusal, answer, Table, Closes, ClosesKnown}
 use Rattle.closing.specs.declared.Closed.{Closed}
 use Rattle.closing.proofs.Laws.{filled-unique}
@@ -108,6 +109,20 @@ module _ (m state before : List ℕ) where
   pub model-fine : (after : List ℕ) (r : Closed) → noRoom state before ≡ false → modelFault m ≡ none → ClosesKnown m state before after r → Closes m state before after r
   unfolding given _orElse_ closeRefusal
   model-fine after r e h c = record { answers = rw (e, h) (c .answers); table = rw (e, h) (c .table) }
+
+-- ---- the numbers
+
+-- Number 8 is never given.
+pub never-eight : (m state table : List ℕ) → closeRefusal m state table ≡ some 8 → ⊥
+unfolding closeRefusal given _orElse_
+never-eight m state table e = go (noRoom state table) (modelFault m) refl (someFrom (factCount m) (members state)) e
+  where
+    go : (short : Bool) (found : Option Fault) → modelFault m ≡ found → (from-F : Bool)
+        → (given short 1 orElse Option·map (λ f. f .number) found orElse given from-F 6) ≡ some 8 → ⊥
+    go true found q from-F h = let z : _≡_ {A = ℕ} 1 8 = cc in omega arith
+    go false (some f) q from-F h = let z : f .number ≡ 8 = cc in omega (arith, model-fault-range m f q)
+    go false none q true h = let z : _≡_ {A = ℕ} 6 8 = cc in omega arith
+    go false none q false h = Option·none-ne-some 8 h
 
 -- ---- one answer
 

@@ -9,23 +9,23 @@ use lib.ListN.{length, set}
 use Rattle.records.specs.Answers.{code}
 use Rattle.closing.specs.Closing as closing
 use Rattle.closing.specs.declared.Closed.{Closed}
-use Rattle.checking.specs.Verdict.{Checked}
+use Rattle.checking.specs.Verdict.{Lent, Checked}
 use Rattle.checking.specs.declared.Verdict.{Verdict}
-use Rattle.exports.specs.Exports.{shorter, over, values, Checks, roundsOut, Rounds, Closes}
+use Rattle.exports.specs.Exports.{shorter, over, values, ChecksOut, roundsOut, ClosesOut}
 use Rattle.exports.proofs.Fronts.{stored}
 
 -- ---- the verdict
 
 -- without room for it
-pub no-verdict : (m t state table out : List ℕ) → length out < 8 → Checks (shorter out 8) m t state state table table out out 1
-unfolding shorter Checks
-no-verdict m t state table out short = rw (lt-ltb _ _ short) (refl, refl, refl, refl)
+pub no-verdict : (m t : List ℕ) (l : Lent) (out : List ℕ) → length out < 8 → ChecksOut (shorter out 8) m t l l out out 1
+unfolding shorter ChecksOut
+no-verdict m t l out short = rw (lt-ltb _ _ short) (refl, refl, refl)
 
 -- with room, its values are written
-pub some-verdict : (m t state state' table table' out out' : List ℕ) (v : Verdict) → 8 ≤ length out → Checked m t state state' table table' v
-    → out' ≡ over (values v) out → Checks (shorter out 8) m t state state' table table' out out' (v .number)
-unfolding shorter Checks
-some-verdict m t state state' table table' out out' v room checked written =
+pub some-verdict : (m t : List ℕ) (before after : Lent) (out out' : List ℕ) (v : Verdict) → 8 ≤ length out
+    → Checked m t before after v → out' ≡ over (values v) out → ChecksOut (shorter out 8) m t before after out out' (v .number)
+unfolding shorter ChecksOut
+some-verdict m t before after out out' v room checked written =
     rw (le-ltb _ _ room)
     (record {
       number = ap (λ (w : Verdict). w .number) (checked .verdict);
@@ -49,14 +49,15 @@ refused-some (some j) k n e = cc
 
 module _ (m state table : List ℕ) where
   -- without room for the rounds
-  pub no-rounds : (out : List ℕ) → length out < 1 → Closes (shorter out 1) m state table table out out 1
-  unfolding shorter Closes
+  pub no-rounds : (out : List ℕ) → length out < 1 → ClosesOut (shorter out 1) m state table table out out 1
+  unfolding shorter ClosesOut
   no-rounds out short = rw (lt-ltb _ _ short) (refl, refl, refl)
 
-  module _ (table' out : List ℕ) (r : Closed) (n : ℕ) (room : 1 ≤ length out) (closed : closing.Closes m state table table' r) where
+  module _ (table' out : List ℕ) (r : Closed) (n : ℕ) (room : 1 ≤ length out)
+      (closed : closing.Closes m state table table' r) where
     -- the rounds are written
-    pub some-rounds : r ≡ Closed.Rounds n → Closes (shorter out 1) m state table table' out (set out 0 n) 0
-    unfolding shorter Closes code roundsOut
+    pub some-rounds : r ≡ Closed.Rounds n → ClosesOut (shorter out 1) m state table table' out (set out 0 n) 0
+    unfolding shorter ClosesOut code roundsOut
     some-rounds told =
         let (fine, same) = rounds-fine _ _ _ (sym told ∙ closed .answers) in
         rw (le-ltb _ _ room)
@@ -67,8 +68,8 @@ module _ (m state table : List ℕ) where
         })
 
     -- a refusal writes nothing
-    pub refused : r ≡ Closed.Refused n → Closes (shorter out 1) m state table table' out out n
-    unfolding shorter Closes code roundsOut
+    pub refused : r ≡ Closed.Refused n → ClosesOut (shorter out 1) m state table table' out out n
+    unfolding shorter ClosesOut code roundsOut
     refused told =
         let number = refused-some _ _ _ (sym told ∙ closed .answers) in
         rw (le-ltb _ _ room)

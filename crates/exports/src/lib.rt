@@ -3,10 +3,12 @@
 ghost use Prim.Native.Nat.{_≤_};
 ghost use mathlib.Core.Path.{_≡_};
 ghost use lib.ListN.{length};
-ghost use Rattle.exports.specs.Exports.{Checks, Closes, Parts, shorter, values, over};
+ghost use Rattle.exports.specs.Exports.{ChecksOut, ClosesOut, PartOut, shorter, values, over};
 ghost use Rattle.files.specs.Answers.{partOf};
 use checking::Verdict;
 use closing::Closed;
+use files::Part;
+use files::both;
 
 // Writes a verdict's eight values to the front.
 fn put(v: Verdict, out: &mut [u64])
@@ -18,9 +20,10 @@ fn put(v: Verdict, out: &mut [u64])
     out[2] = v.fact as u64;
     out[3] = v.rounds as u64;
     out[4] = v.held as u64;
-    out[5] = v.mark as u64;
-    out[6] = v.start as u64;
-    out[7] = v.size as u64;
+    let part = v.part;
+    out[5] = part.mark as u64;
+    out[6] = part.start as u64;
+    out[7] = part.size as u64;
 }
 
 // The verdict on a model and a trace: its number, and its eight values at the front of `out`. Without room for them the answer
@@ -33,8 +36,9 @@ pub extern "C" fn cantivorex_check(
     table: &mut [u16],
     out: &mut [u64],
 ) -> u8
-    ensures { λ r. ⌜ Checks (shorter (now (out .entry)) 8) (now (model .entry)) (now (trace .entry)) (now (state .entry)) (now (state .exit))
-        (now (table .entry)) (now (table .exit)) (now (out .entry)) (now (out .exit)) r ⌝ }
+    ensures { λ r. ⌜ ChecksOut (shorter (now (out .entry)) 8) (now (model .entry)) (now (trace .entry))
+        (record { state = now (state .entry); table = now (table .entry) })
+        (record { state = now (state .exit); table = now (table .exit) }) (now (out .entry)) (now (out .exit)) r ⌝ }
 {
     if out.len() < 8 {
         return 1;
@@ -53,8 +57,8 @@ pub extern "C" fn cantivorex_close(
     table: &mut [u16],
     out: &mut [u64],
 ) -> u8
-    ensures { λ r. ⌜ Closes (shorter (now (out .entry)) 1) (now (model .entry)) (now (state .entry)) (now (table .entry)) (now (table .exit))
-        (now (out .entry)) (now (out .exit)) r ⌝ }
+    ensures { λ r. ⌜ ClosesOut (shorter (now (out .entry)) 1) (now (model .entry)) (now (state .entry))
+        (now (table .entry)) (now (table .exit)) (now (out .entry)) (now (out .exit)) r ⌝ }
 {
     if out.len() < 1 {
         return 1;
@@ -90,9 +94,11 @@ pub extern "C" fn cantivorex_part<'a>(
     size: usize,
     out: &mut [u8],
 ) -> usize
-    ensures { λ r. ⌜ Parts (partOf (now (model .entry)) (now (trace .entry)) mark start size) (now (out .entry)) (now (out .exit)) r ⌝ }
+    ensures { λ r. ⌜ PartOut (partOf (now (model .entry)) (now (trace .entry)) (record { mark = mark; start = start; size = size }))
+        (now (out .entry)) (now (out .exit)) r ⌝ }
 {
-    let bytes = files::both::part(model, trace, mark, start, size);
+    let at = Part { mark, start, size };
+    let bytes = both::part(model, trace, at);
     copy(bytes, out);
     bytes.len()
 }

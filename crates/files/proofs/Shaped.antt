@@ -45,8 +45,8 @@ module _ (F : ℕ) (file : List ℕ) where
 
 -- ---- a judged model
 
--- every role has its section
-role-there : (r : Role) → (indexOf r roles < length roles) × (getD roles (indexOf r roles) Goals ≡ r)
+-- Every role has its section.
+pub role-there : (r : Role) → (indexOf r roles < length roles) × (getD roles (indexOf r roles) Goals ≡ r)
 unfolding roles indexOf tag
 role-there Sizes = (lit< tt, refl)
 role-there Initial = (lit< tt, refl)
@@ -76,7 +76,7 @@ module _ (file : List ℕ) (fine : shapeFault file ≡ none) where
       rw (there .1, zero-add) at (fine-at (factCount file) file roles 0 fine (indexOf r roles) (there .0) .1)
 
   -- Nothing stands after the last.
-  file-end : length file ≤ sectionAt file (length roles)
+  pub file-end : length file ≤ sectionAt file (length roles)
   unfolding shapeFault
   file-end = fine-end (factCount file) file roles 0 fine
 

@@ -134,13 +134,13 @@ pub record FinePair (m t : List ℕ) : Type 0 where
   pub trace : traceFault (length (modelOf m .goals)) (length (modelOf m .rules)) t ≡ none
 
 -- a file's fault and what is judged after it
-file-then : (blame : Fault → Blamed) (fault : Option Fault) (later : Option Blamed) → (Option·map blame fault orElse later) ≡ none → (fault ≡ none) × (later ≡ none)
+pub file-then : (blame : Fault → Blamed) (fault : Option Fault) (later : Option Blamed) → (Option·map blame fault orElse later) ≡ none → (fault ≡ none) × (later ≡ none)
 file-then blame fault later e =
     let (here, after) = neither (Option·map blame fault) later e in
     (map-eq-none-iff blame fault .0 here, after)
 
 -- a file that is not too long
-not-long : (most : ℕ) (file : List ℕ) → tooLong most file ≡ none → length file ≤ most
+pub not-long : (most : ℕ) (file : List ℕ) → tooLong most file ≡ none → length file ≤ most
 unfolding tooLong
 not-long most file e = ltb-false _ _ (not-given _ _ e)
 

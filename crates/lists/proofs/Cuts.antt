@@ -23,7 +23,7 @@ behind true x e = (refl, e)
 behind {y} false x e = absurd (Option·none-ne-some y e)
 
 -- The lists of a record are those that the bytes after its length are cut into.
-body-cut : (K : Kind) (r : List ℕ) (lists : List (List ℕ)) → listsOf K r ≡ some lists → cut K (drop 2 r) ≡ some lists
+pub body-cut : (K : Kind) (r : List ℕ) (lists : List (List ℕ)) → listsOf K r ≡ some lists → cut K (drop 2 r) ≡ some lists
 unfolding listsOf
 body-cut K r lists e = behind (whole r) (cut K (drop 2 r)) e .1
 
@@ -73,6 +73,15 @@ cut-split k bytes lists e =
     let (fits, all) = behind (leb (2 + 2 * word bytes) (length bytes)) (Option·map with-first others) e in
     let (rest, cut-rest, same) = map-eq-some-iff with-first others .0 all in
     (rest, leb-true _ _ fits, cut-rest, same)
+
+-- They are as many as asked for.
+pub cut-length : (k : ℕ) (bytes : List ℕ) (lists : List (List ℕ)) → cutLists k bytes ≡ some lists → length lists ≡ k
+unfolding cutLists
+cut-length zero [] lists e = let none-there : [] ≡ lists = cc in rw (← none-there)
+cut-length zero (b ∷ bytes) lists e = absurd (Option·none-ne-some lists e)
+cut-length (suc k) bytes lists e =
+    let (others, fits, rest, same) = cut-split k bytes lists e in
+    rw (← same) (ap suc (cut-length k (drop (2 + 2 * word bytes) bytes) others rest))
 
 -- Each of the lists that bytes are cut into is ahead at their start.
 cut-ahead : (k : ℕ) (bytes : List ℕ) (lists : List (List ℕ)) → cutLists k bytes ≡ some lists → (j : ℕ) → j < k

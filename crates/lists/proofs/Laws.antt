@@ -93,7 +93,7 @@ module _ (refuses : ℕ → List ℕ → Option ℕ) where
       go (some k) e = absurd (Option·some-ne-none _ (sym (first-here refuses n at r rs k e) ∙ h))
 
   -- Where no record from record n on is refused, each is passed at its own number.
-  passed-at : (n at : ℕ) (rs : List (List ℕ)) → firstFrom refuses n at rs ≡ none → (i : ℕ) → i < length rs
+  pub passed-at : (n at : ℕ) (rs : List (List ℕ)) → firstFrom refuses n at rs ≡ none → (i : ℕ) → i < length rs
       → refuses (n + i) (getD rs i []) ≡ none
   passed-at n at [] h i l = absurd (not-suc-le-zero l)
   passed-at n at (r ∷ rs) h zero l = rw add-zero (first-passes n at r rs h .0)

@@ -1,3 +1,4 @@
 -- `Laws` is for the crates above; `Cuts` is for the proofs here.
 pub mod Laws
 pub mod Cuts
+pub mod Rows

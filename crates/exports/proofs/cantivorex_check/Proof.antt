@@ -8,7 +8,7 @@ use Rattle.exports.proofs.cantivorex_check.Tie as tie
 returns : tie.Need-returns
 returns c =
     let s = c .before .before .before .before .before .before in
-    no-verdict (now (s .args .model)) (now (s .args .trace)) (now (s .args .state)) (now (s .args .table)) (now (s .args .out)) (c .if1 .taken)
+    no-verdict (now (s .args .model)) (now (s .args .trace)) _ (now (s .args .out)) (c .if1 .taken)
 
 check-requires : tie.Need-check-requires
 check-requires c κs = search needs
@@ -30,8 +30,8 @@ returns-2 c =
     let checked = c .before .before .before .before .before .before .before .before in
     let room = checked .before .before .before in
     let s = room .before .before .before .before .before .before in
-    some-verdict (now (s .args .model)) (now (s .args .trace)) (now (s .args .state)) _ (now (s .args .table)) _ (now (s .args .out)) _ _ (room .if1 .left) (checked .check .ensures)
-    (c .before .before .put .ensures)
+    some-verdict (now (s .args .model)) (now (s .args .trace)) _ _ (now (s .args .out)) _ _ (room .if1 .left)
+    (checked .check .ensures) (c .before .before .put .ensures)
 
 pub cantivorex-check-spec : {M : Type 1} → statement M
 cantivorex-check-spec =

@@ -47,26 +47,26 @@ slice-write-out-5 c =
 
 slice-write-out-6 : tie.Need-slice-write-out-6
 slice-write-out-6 c =
-    let s = c .before .before in
+    let s = c .before .before .before in
     let v = s .args .v in
     lt-length-sets (now (s .args .out)) 0 (v .number ∷ v .step ∷ v .fact ∷ v .rounds ∷ v .held ∷ []) (omega arith)
 
 slice-write-out-7 : tie.Need-slice-write-out-7
 slice-write-out-7 c =
-    let s = c .before .before in
+    let s = c .before .before .before in
     let v = s .args .v in
-    lt-length-sets (now (s .args .out)) 0 (v .number ∷ v .step ∷ v .fact ∷ v .rounds ∷ v .held ∷ v .mark ∷ []) (omega arith)
+    lt-length-sets (now (s .args .out)) 0 (v .number ∷ v .step ∷ v .fact ∷ v .rounds ∷ v .held ∷ v .part .mark ∷ []) (omega arith)
 
 slice-write-out-8 : tie.Need-slice-write-out-8
 slice-write-out-8 c =
-    let s = c .before .before in
+    let s = c .before .before .before in
     let v = s .args .v in
-    lt-length-sets (now (s .args .out)) 0 (v .number ∷ v .step ∷ v .fact ∷ v .rounds ∷ v .held ∷ v .mark ∷ v .start ∷ []) (omega arith)
+    lt-length-sets (now (s .args .out)) 0 (v .number ∷ v .step ∷ v .fact ∷ v .rounds ∷ v .held ∷ v .part .mark ∷ v .part .start ∷ []) (omega arith)
 
 returns : tie.Need-returns
 unfolding values
 returns c =
-    let s = c .before .before in
+    let s = c .before .before .before in
     stored (values (s .args .v)) (now (s .args .out)) (s .pre)
 
 pub put-spec : {M : Type 1} → statement M

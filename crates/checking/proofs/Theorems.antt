@@ -1,0 +1,216 @@
+-- What demands 1 to 3 promise of a verdict (specs/Promises), proved: each theorem in one place, the work in the files
+-- beside this one.
+use Prim.Native.Nat.{ℕ, zero, suc, _≤_, _<_}
+use mathlib.Core.Path.{_≡_, refl, sym, ap, _∙_}
+use mathlib.Core.Logic.{_↔_, _⊎_, inl, ⊎-elim}
+use mathlib.Core.Bool.{false}
+use mathlib.Core.List.{List, [], _∷_, List·Memᴰ·head, List·Memᴰ·tail, List·Memᴰ·not-nil}
+use mathlib.Core.Option.{Option, none, some}
+use native.Mathlib.Omega.{arith}
+use lib.Dec.{T}
+use lib.ListN.{getD}
+use Rattle.sets.specs.Sets.{Facts, _∈_}
+use Rattle.sets.proofs.Laws.{fails, below-or-from}
+use Rattle.meaning.specs.Model.{Rule, ruleOf}
+use Rattle.meaning.specs.Rounds.{rounds, closure, missingHeads}
+use Rattle.meaning.specs.Published.{TrueAttack}
+use Rattle.meaning.specs.Promises.{IsOutcome, EndsSo, roundsOn}
+use Rattle.meaning.specs.Promises.EndsSo.{attack as so-attack, blocked as so-blocked, notMet as so-notMet}
+use Rattle.meaning.proofs.Theorems.{accepted, run-is, closure-inside, roundNumber-is, rounds-bound, missingHeads-bound}
+use Rattle.meaning.proofs.Runs.{Below, run-below}
+use Rattle.facts.specs.Facts.{members}
+use Rattle.facts.proofs.Laws.{Bytes, determined}
+use Rattle.files.specs.Files.Blamed.{model, trace}
+use Rattle.files.specs.Files.{Blamed, factCount, modelOf, traceOf, pairFault}
+use Rattle.files.specs.Answers.{blamedNumber}
+use Rattle.files.proofs.Laws.{initial-below, clauses-bound, clause-below, rule-below}
+use Rattle.files.proofs.Traces.{fine-pair, pair-named}
+use Rattle.files.specs.Causes.{RightPair}
+use Rattle.files.proofs.Causes.{pair-cause, cause-range}
+use Rattle.files.proofs.Exact.{right-exactly}
+use Rattle.closing.specs.Closing.{noRoom}
+use Rattle.closing.proofs.Laws.{filled-unique}
+use Rattle.checking.specs.Verdict.{Lent, numberOf, factOf, kindOf, roundOf, refused, blamed, ran, outcome}
+use Rattle.checking.specs.Verdict.{refusal, verdictOf, Left, Buffers}
+use Rattle.checking.specs.Verdict.{Checked}
+use Rattle.checking.specs.Promises.{verdict, WellFormed, endNumber, Given, AtFault, Kinds, InFile}
+use Rattle.checking.specs.Promises.InFile.{inModel}
+use Rattle.checking.specs.declared.Verdict.{Verdict}
+use Rattle.checking.proofs.Refusals.{refuses-none, by-cause}
+use Rattle.checking.proofs.Causes.{end-range, end-attack, given-room, given-fault, given-run}
+use Rattle.checking.proofs.Naming.{in-closure, named}
+use Rattle.checking.proofs.Parts.{fault-at, run-at, fault-in, run-in}
+
+-- ---- one verdict
+
+module _ (m t : List ℕ) (before : Lent) {a b : Lent} (bytes-a : Bytes (a .state)) (bytes-b : Bytes (b .state)) where
+  -- Whatever the refusal, it leaves one state and one table.
+  pub buffers-unique : (r : Option Verdict) → Buffers m t r before a → Buffers m t r before b → a ≡ b
+  unfolding Buffers
+  buffers-unique none x y =
+      let states = determined bytes-a bytes-b (x .kept) (y .kept) (λ g. x .facts g ∙ sym (y .facts g)) in
+      let tables = filled-unique (x .rounds) (y .rounds) in
+      λ i. record { state = states i; table = tables i }
+  buffers-unique (some v) x y = x ∙ sym y
+
+  -- Two results of checking one pair with the same buffers are equal in every field of the verdict, every byte and
+  -- every entry.
+  pub checked-unique : {v w : Verdict} → Checked m t before a v → Checked m t before b w → (v ≡ w) × (a ≡ b)
+  checked-unique x y = (x .verdict ∙ sym (y .verdict), buffers-unique (refusal m t before) (x .buffers) (y .buffers))
+
+-- ---- a well-formed pair
+
+-- What holds of the default and of each entry holds at every index.
+each-at : {A : Type 0} (P : A → Type 0) (xs : List A) (d : A) → P d → ((x : A) → x ∈ xs → P x) → (k : ℕ)
+    → P (getD xs k d)
+each-at P [] d z h zero = z
+each-at P [] d z h (suc k) = z
+each-at P (x ∷ xs) d z h zero = h x (List·Memᴰ·head refl)
+each-at P (x ∷ xs) d z h (suc k) = each-at P xs d z (λ y i. h y (List·Memᴰ·tail i)) k
+
+module _ {m t : List ℕ} {l : Lent} (w : WellFormed m t l) where
+  -- The outcome is the trace's, in document 003's terms, the first condition not met being named, and the verdict is
+  -- the outcome's.
+  pub first-not-met : IsOutcome (modelOf m) (traceOf t) (outcome m t) × (verdict m t l ≡ ran m t (outcome m t))
+  unfolding outcome verdictOf
+  first-not-met = (run-is (modelOf m) (traceOf t) (pair-named m t (w .fine)), rw (refuses-none m t l w))
+
+  -- The verdict is 0 exactly if the trace is a true attack.
+  pub attack-exactly : (verdict m t l .number ≡ 0) ↔ TrueAttack (modelOf m) (traceOf t)
+  unfolding outcome ran
+  attack-exactly =
+      let ends = end-attack (outcome m t .ending) in
+      let is = accepted (modelOf m) (traceOf t) (pair-named m t (w .fine)) in
+      rw (first-not-met .1) (λ e. is .0 (ends .0 e), λ a. ends .1 (is .1 a))
+
+  -- The rounds are the sum over the states reached.
+  pub rounds-sum : verdict m t l .rounds ≡ roundsOn (first-not-met .0 .path)
+  unfolding ran
+  rounds-sum = ap (λ (v : Verdict). v .rounds) (first-not-met .1) ∙ first-not-met .0 .rounds
+
+  -- Of each state they are at most as many as the different clause heads missing from it, and those are at most 4,096.
+  pub rounds-bounded : (S : Facts)
+      → (rounds (modelOf m .clauses) S ≤ missingHeads (modelOf m .clauses) S)
+      × (missingHeads (modelOf m .clauses) S ≤ 4096)
+  rounds-bounded S =
+      let few = clauses-bound m (fine-pair m t (w .fine) .shape) in
+      (rounds-bound _ S, omega (arith, missingHeads-bound (modelOf m .clauses) S))
+
+  -- ---- from F on
+
+  -- The last state reached is below F.
+  last-below : Below (factCount m) (outcome m t .state .facts)
+  unfolding outcome modelOf ruleOf
+  last-below =
+      let shape = fine-pair m t (w .fine) .shape in
+      run-below (modelOf m) (traceOf t) (initial-below m shape)
+      (each-at (λ (r : Rule). (f : ℕ) → f ∈ r .A → f < factCount m) (modelOf m .rules) _
+      (λ f i. absurd (List·Memᴰ·not-nil i)) (λ r i. rule-below m shape r i .2))
+
+  module _ {after : Lent} {v : Verdict} (checked : Checked m t l after v) where
+    left : Left (modelOf m) (outcome m t) l after
+    unfolding Buffers
+    left = rw (refuses-none m t l w) at (checked .buffers)
+
+    -- No bit from F on is set in the state left.
+    pub zero-from-F : (g : ℕ) → factCount m ≤ g → members (after .state) g ≡ false
+    unfolding Below
+    zero-from-F g h = left .facts g ∙ last-below g h
+
+    -- Every entry from F on, of the first 4,096, is 65,535 in the table left.
+    pub outside-from-F : (f : ℕ) → factCount m ≤ f → f < 4096 → getD (after .table) f 0 ≡ 65535
+    unfolding Below
+    outside-from-F f h low =
+        left .rounds .entries f low ∙ roundNumber-is _ _ f .outside (λ c. omega (arith, inside f c))
+      where
+        inside : (g : ℕ) → T (closure (modelOf m .clauses) (outcome m t .state .facts) g) → g < factCount m
+        inside =
+            closure-inside _ _ (λ g. g < factCount m)
+            (λ g s. ⊎-elim (λ b. b) (λ b. absurd (fails (last-below g b) s)) (below-or-from g (factCount m)))
+            (λ c i _. clause-below m (fine-pair m t (w .fine) .shape) c i .0)
+
+-- ---- every number has its cause
+
+-- The number of a pair's fault is one of 2 to 9, and never 8.
+pub fault-range : (m t : List ℕ) (b : Blamed) → pairFault m t ≡ some b
+    → (2 ≤ blamedNumber b) × (blamedNumber b ≤ 9) × (blamedNumber b ≡ 8 → ⊥)
+unfolding blamedNumber
+fault-range m t (model f) e = cause-range (pair-cause m t (model f) e .cause)
+fault-range m t (trace f) e = cause-range (pair-cause m t (trace f) e .cause)
+
+-- The number of a run's outcome is 0, 10 or 11.
+pub outcome-range : (m t : List ℕ) → (endNumber m t ≡ 0) ⊎ ((10 ≤ endNumber m t) × (endNumber m t ≤ 11))
+outcome-range m t = end-range (outcome m t .ending)
+
+module _ (m t : List ℕ) (l : Lent) where
+  -- The verdict's number is given exactly when its cause is there, and in no other case.
+  pub numbers : Given m t l (verdict m t l .number)
+  unfolding refused blamed ran
+  numbers =
+      by-cause m t l (λ v. Given m t l (v .number)) (given-room m t l)
+      (λ room b e. let (low, high, _) = fault-range m t b e in given-fault m t l room b e (low, high))
+      (λ w. given-run m t l (w .room) (w .fine))
+
+  -- A pair is well-formed, with enough room, exactly if nothing that is judged before the first step is wrong.
+  pub well-formed : WellFormed m t l ↔ ((noRoom (l .state) (l .table) ≡ false) × RightPair m t)
+  well-formed =
+      let exactly = right-exactly m t in
+      (λ w. (w .room, exactly .0 (w .fine)), λ (room, right). record { room = room; fine = exactly .1 right })
+
+  -- Number 8 is never given.
+  pub never-eight : verdict m t l .number ≡ 8 → ⊥
+  never-eight e =
+      let (_, (_, _, cause)) = numbers .fault 8 (omega arith) (omega arith) .0 e in
+      cause-range cause .2 refl
+
+  -- Whatever the files and buffers, the verdict is 0 exactly if the pair is well-formed and the trace a true attack.
+  pub accepted-exactly : (verdict m t l .number ≡ 0) ↔ (WellFormed m t l × TrueAttack (modelOf m) (traceOf t))
+  accepted-exactly =
+      (λ e. let w = numbers .ran 0 (inl refl) .0 e .0 in (w, attack-exactly w .0 e), λ (w, a). attack-exactly w .1 a)
+
+  -- ---- the bytes at fault
+
+  -- They are what document 01 names for the number.
+  pub at-fault : AtFault m t (verdict m t l)
+  unfolding refused blamed ran
+  at-fault =
+      by-cause m t l (AtFault m t) (λ _. record {
+        empty = λ _. refl;
+        cause = λ low _. absurd (omega arith);
+        entry = λ e. absurd (omega arith);
+        goal = λ e. absurd (omega arith);
+      })
+      (λ _ b e. fault-at m t b e) (λ w. run-at m t (w .fine) (first-not-met w .0 .ends))
+
+  -- They lie in the file marked.
+  pub part-in-file : InFile m t (verdict m t l .part)
+  unfolding refused blamed ran
+  part-in-file =
+      by-cause m t l (λ v. InFile m t (v .part)) (λ _. inModel refl (omega arith))
+      (λ _ b e. fault-in m t b (pair-cause m t b e)) (λ w. run-in m t (w .fine) (first-not-met w .0 .ends))
+
+  -- ---- the unmet condition
+
+  -- Kind and round are those of the first unmet condition of the blocked rule or of the attack state, and no other number has any.
+  pub kinds : Kinds m t (verdict m t l)
+  unfolding refused blamed ran
+  kinds =
+      by-cause m t l (Kinds m t) (λ _. unkind _ (omega arith) refl refl)
+      (λ _ b e. let (_, high, _) = fault-range m t b e in unkind _ (omega arith) refl refl)
+      (λ w. of-run w (first-not-met w .0 .ends))
+    where
+      unkind : (v : Verdict) → v .number < 10 → v .kind ≡ 0 → v .round ≡ 65535 → Kinds m t v
+      unkind v low k r = record { no-kind = λ _. (k, r); of-rule = λ e. absurd (omega arith); of-goal = λ e. absurd (omega arith) }
+
+      of-run : WellFormed m t l → EndsSo (modelOf m) (traceOf t .goal) (traceOf t .steps) (outcome m t) → Kinds m t (ran m t (outcome m t))
+      of-run w (so-attack e _ _) = rw e (unkind _ (omega arith) refl refl)
+      of-run w (so-blocked c e h X hc u) = record {
+        no-kind = λ low. absurd (omega (arith, ap numberOf e));
+        of-rule = λ _. named _ _ c (in-closure hc u) (ap factOf e) (ap kindOf e) (ap (roundOf _) e);
+        of-goal = λ q. absurd (omega (arith, ap numberOf e));
+      }
+      of-run w (so-notMet c e h X hc u) = record {
+        no-kind = λ low. absurd (omega (arith, ap numberOf e));
+        of-rule = λ q. absurd (omega (arith, ap numberOf e));
+        of-goal = λ _. named _ _ c (in-closure hc u) (ap factOf e) (ap kindOf e) (ap (roundOf _) e);
+      }

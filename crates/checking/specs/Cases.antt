@@ -1,0 +1,114 @@
+-- Document 01's cases A to L as one table: a model and a trace, and the line expected ("The desk model and its
+-- traces").
+use Prim.Native.Nat.{ℕ}
+use mathlib.Core.Path.{_≡_}
+use mathlib.Core.Bool.{false}
+use mathlib.Core.List.{List, [], _∷_, map}
+use lib.ListN.{length}
+use Rattle.sets.specs.Sets.{listed, _∈_}
+use Rattle.meaning.specs.Model.{Clause, Rule, Goal, Model, Trace}
+use Rattle.meaning.specs.Rounds.{roundNumber}
+use Rattle.files.specs.Files.{modelOf}
+use Rattle.files.specs.Written.{ruleBytes, writtenModel, writtenTrace}
+use Rattle.closing.specs.Closing.{noRoom}
+use Rattle.checking.specs.Verdict.{Lent}
+use Rattle.checking.specs.Promises.{Line, shown, verdict}
+
+infix 80 _from_
+-- ---- models and traces, as the document writes them
+
+abbrev pub _from_ : ℕ → List ℕ → Clause
+h from body = record { head = h; body = body }
+
+abbrev pub rule : List ℕ → List ℕ → List ℕ → Rule
+rule P N A = record { P = P; N = N; A = A }
+
+abbrev pub goal : List ℕ → List ℕ → Goal
+goal P N = record { P = P; N = N }
+
+abbrev pub trace : ℕ → List ℕ → Trace
+trace g ks = record { goal = g; steps = ks }
+
+-- "r0 P 5, N 3, A 3"
+unfoldable pub r0 : Rule
+r0 = rule (5 ∷ []) (3 ∷ []) (3 ∷ [])
+
+-- "F = 6 .. Initial 0, 1, 4. Clauses: 2 from 0, 1; 5 from 2, 4. Rules: r0 P 5, N 3, A 3; r1 P 0; r2 P 1, A 1. Attack
+-- states: a0 P 3, 5; a1 P 4, N 0."
+unfoldable pub desk : Model
+unfolding r0
+desk = record {
+  F = 6;
+  initial = 0 ∷ 1 ∷ 4 ∷ [];
+  clauses = 2 from (0 ∷ 1 ∷ []) ∷ 5 from (2 ∷ 4 ∷ []) ∷ [];
+  rules = r0 ∷ rule (0 ∷ []) [] [] ∷ rule (1 ∷ []) [] (1 ∷ []) ∷ [];
+  goals = goal (3 ∷ 5 ∷ []) [] ∷ goal (4 ∷ []) (0 ∷ []) ∷ [];
+}
+
+-- "Other models have one attack state, whose P is the fact called goal below and whose N is empty; no rules"
+abbrev pub other : ℕ → List ℕ → List Clause → List ℕ → Model
+other F initial clauses P =
+    record { F = F; initial = initial; clauses = clauses; rules = []; goals = goal P [] ∷ [] }
+
+-- what the document says of the desk model: "The file has 101 bytes; r0 is ..", "Round numbers at the start: 0, 0, 1,
+-- none, 0, 2.", "Trace B is .."; and the file is read as that model
+pub record DeskModel : Type 0 where
+  pub size : length (writtenModel desk) ≡ 101
+  pub read : modelOf (writtenModel desk) ≡ desk
+  pub r0-bytes : ruleBytes r0
+      ≡ 0x00 ∷ 0x0C ∷ 0x00 ∷ 0x01 ∷ 0x00 ∷ 0x05 ∷ 0x00 ∷ 0x01 ∷ 0x00 ∷ 0x03 ∷ 0x00 ∷ 0x01 ∷ 0x00 ∷ 0x03 ∷ []
+  pub trace-B : writtenTrace (trace 0 (1 ∷ 0 ∷ []))
+      ≡ 0x01 ∷ 0x00 ∷ 0x00 ∷ 0x00 ∷ 0x06 ∷ 0x00 ∷ 0x00 ∷ 0x00 ∷ 0x01 ∷ 0x00 ∷ 0x00 ∷ []
+  pub starts : map (roundNumber (desk .clauses) (listed (desk .initial))) (0 ∷ 1 ∷ 2 ∷ 3 ∷ 4 ∷ 5 ∷ [])
+      ≡ 0 ∷ 0 ∷ 1 ∷ 65535 ∷ 0 ∷ 2 ∷ []
+
+-- ---- the table
+
+-- a row: a model and a trace, and the line for their files
+pub record Case : Type 0 where
+  pub model : Model
+  pub trace : Trace
+  pub expected : Line
+
+abbrev case : Model → Trace → ℕ → ℕ → ℕ → ℕ → ℕ → ℕ → ℕ → Case
+case m t number step fact rounds held kind round = record {
+  model = m;
+  trace = t;
+  expected = record {
+    number = number;
+    step = step;
+    fact = fact;
+    rounds = rounds;
+    held = held;
+    kind = kind;
+    round = round;
+  };
+}
+
+-- the rows of "The desk model and its traces", A to L
+unfoldable pub cases : List Case
+unfolding desk
+cases =
+    -- A to G, on the desk model
+    case desk (trace 0 (0 ∷ [])) 0 1 65535 4 4 0 65535
+    ∷ case desk (trace 0 (1 ∷ 0 ∷ [])) 10 1 5 2 2 1 65535
+    ∷ case desk (trace 0 (0 ∷ 0 ∷ [])) 10 1 3 4 4 2 0
+    ∷ case desk (trace 1 (1 ∷ [])) 0 1 65535 2 2 0 65535
+    ∷ case desk (trace 1 []) 11 0 0 2 3 2 0
+    ∷ case desk (trace 0 (2 ∷ [])) 11 1 3 4 3 1 65535
+    ∷ case desk (trace 2 []) 9 0 65535 0 0 0 65535
+    -- H to L; L in both clause orders
+    ∷ case (other 0 [] [] []) (trace 0 []) 0 0 65535 0 0 0 65535
+    ∷ case (other 1 [] (0 from [] ∷ []) (0 ∷ [])) (trace 0 []) 0 0 65535 1 0 0 65535
+    ∷ case (other 1 [] (0 from (0 ∷ []) ∷ []) (0 ∷ [])) (trace 0 []) 11 0 0 0 0 1 65535
+    ∷ case (other 2 [] (0 from (1 ∷ []) ∷ 1 from (0 ∷ []) ∷ []) (0 ∷ [])) (trace 0 []) 11 0 0 0 0 1 65535
+    ∷ case (other 4 (0 ∷ []) (3 from (2 ∷ []) ∷ 2 from (1 ∷ []) ∷ 1 from (0 ∷ []) ∷ []) (3 ∷ []))
+    (trace 0 []) 0 0 65535 3 1 0 65535
+    ∷ case (other 4 (0 ∷ []) (1 from (0 ∷ []) ∷ 2 from (1 ∷ []) ∷ 3 from (2 ∷ []) ∷ []) (3 ∷ []))
+    (trace 0 []) 0 0 65535 3 1 0 65535
+    ∷ []
+
+-- the claim: with enough room, the verdict on every case's files shows the line expected
+abbrev pub AllHold : Type 0
+AllHold = (c : Case) → c ∈ cases → (l : Lent) → noRoom (l .state) (l .table) ≡ false
+    → shown (verdict (writtenModel (c .model)) (writtenTrace (c .trace)) l) ≡ c .expected

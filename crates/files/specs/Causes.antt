@@ -1,0 +1,174 @@
+-- The causes of 2 to 9 in the words of document 01's table, each with its bytes at fault and with nothing there that
+-- comes before it in the order ("Verdict numbers and the order", "the bytes at fault"). How a fault is looked for is
+-- another definition, `pairFault`; proofs/Causes.antt shows that what it finds has its cause here.
+use Prim.Native.Nat.{ℕ, suc, _+_, _%_, _≤_, _<_}
+use mathlib.Core.Path.{_≡_}
+use mathlib.Core.Logic.{_⊎_}
+use mathlib.Core.List.{List, [], _∷_}
+use mathlib.Core.Option.{none, some}
+use lib.ListN.{length, take, drop, getD}
+use Rattle.sets.specs.Sets.{_∈_}
+use Rattle.records.specs.Words.{word, words}
+use Rattle.records.specs.Records.{records, listsOf}
+use Rattle.records.specs.declared.Kind.{Kind}
+use Rattle.records.specs.declared.Kind.the-variants as kind
+use Rattle.sections.specs.Sections.{long, endAt, sectionAt}
+use Rattle.sections.specs.declared.Role.{Role}
+use Rattle.sections.specs.declared.Role.the-variants.{Sizes, Initial, Clauses, Rules, Goals}
+use Rattle.files.specs.Files.{roles, tag, placeOfRole, sectionOf, factCount, entriesOf, modelOf, traceOf}
+
+-- ---- what can be wrong with a record, by number
+
+-- "a list not strictly ascending": an entry is followed by one that isn't larger
+unfoldable pub Unordered : List ℕ → Type 0
+Unordered l = (i : ℕ) × (suc i < length l) × (getD l (suc i) 0 ≤ getD l i 0)
+
+-- "sizes: exactly 2 bytes, F", "F 0 to 4,096"
+pub data WrongSizes (bytes : List ℕ) : ℕ → Type 0 where
+  shape : (length bytes ≡ 2 → ⊥) → WrongSizes bytes 4
+  count : 4096 < word bytes → WrongSizes bytes 5
+
+-- "initial facts: 2 bytes each", "a fact number of F or more", "strictly ascending"
+pub data WrongFacts (F : ℕ) (bytes : List ℕ) : ℕ → Type 0 where
+  shape : length bytes % 2 ≡ 1 → WrongFacts F bytes 4
+  fact : (f : ℕ) → f ∈ words bytes → F ≤ f → WrongFacts F bytes 6
+  order : Unordered (words bytes) → WrongFacts F bytes 7
+
+-- "a length or count that doesn't fit .. bytes left over": the record isn't its lists; "a bound above passed" by its
+-- number or by one of its lists; "a fact number of F or more"; "a list not strictly ascending"
+pub data WrongRecord (K : Kind) (most longest F n : ℕ) (r : List ℕ) : ℕ → Type 0 where
+  shape : listsOf K r ≡ none → WrongRecord K most longest F n r 4
+  count : most ≤ n → WrongRecord K most longest F n r 5
+  longer : {lists : List (List ℕ)} → listsOf K r ≡ some lists → (l : List ℕ) → l ∈ lists → longest < length l
+      → WrongRecord K most longest F n r 5
+  fact : {lists : List (List ℕ)} → listsOf K r ≡ some lists → (l : List ℕ) → l ∈ lists → (f : ℕ) → f ∈ l → F ≤ f
+      → WrongRecord K most longest F n r 6
+  order : {lists : List (List ℕ)} → listsOf K r ≡ some lists → (l : List ℕ) → l ∈ lists → Unordered l
+      → WrongRecord K most longest F n r 7
+
+-- record n of a section of a role, in a model of F facts: "Clauses 4,096, body facts 16. Rules 2,048, attack states 64,
+-- each list 32."
+abbrev pub Wrong : Role → ℕ → ℕ → List ℕ → ℕ → Type 0
+Wrong Sizes F n r = WrongSizes r
+Wrong Initial F n r = WrongFacts F r
+Wrong Clauses F n r = WrongRecord kind.Clause 4096 16 F n r
+Wrong Rules F n r = WrongRecord kind.Rule 2048 32 F n r
+Wrong Goals F n r = WrongRecord kind.Goal 64 32 F n r
+
+-- ---- the model, in file order
+
+-- "Sizes and initial facts count as one record each, whose bytes are the section's."
+unfoldable pub judgedRecords : Role → List ℕ → List (List ℕ)
+unfolding records
+judgedRecords Sizes bytes = bytes ∷ []
+judgedRecords Initial bytes = bytes ∷ []
+judgedRecords Clauses bytes = records bytes
+judgedRecords Rules bytes = records bytes
+judgedRecords Goals bytes = records bytes
+
+-- record n of the model's section of a role
+abbrev pub recordIn : List ℕ → Role → ℕ → List ℕ
+recordIn m r n = getD (judgedRecords r (sectionOf m r)) n []
+
+-- this is wrong with it
+abbrev pub WrongIn : List ℕ → Role → ℕ → ℕ → Type 0
+WrongIn m r n k = Wrong r (factCount m) n (recordIn m r n) k
+
+-- the section whose length stands at a place ends within the file
+unfoldable pub Fits : List ℕ → ℕ → Type 0
+unfolding long
+Fits file at = at + 4 + long (drop at file) ≤ length file
+
+-- the section's length fits, and nothing is wrong with any of its records
+pub record RightSection (m : List ℕ) (r : Role) : Type 0 where
+  pub fits : Fits m (placeOfRole m r)
+  pub records : (n : ℕ) → n < length (judgedRecords r (sectionOf m r)) → (k : ℕ) → WrongIn m r n k → ⊥
+
+-- where the last section of a model ends
+abbrev pub modelEnd : List ℕ → ℕ
+modelEnd m = sectionAt m (length roles)
+
+-- 4 to 7 for the model, "at the first fault in file order", with the bytes at fault: "where a section's length
+-- doesn't fit: the rest of the file, from that length on"; otherwise the record, of whose faults the one with the
+-- smallest number is given; "after the last section: those bytes". A record whose length doesn't fit is the rest of
+-- its section (`records`).
+pub data ModelCause (m : List ℕ) : ℕ → List ℕ → Type 0 where
+  unfit : (r : Role) → ((q : Role) → tag q < tag r → RightSection m q) → (Fits m (placeOfRole m r) → ⊥)
+      → ModelCause m 4 (drop (placeOfRole m r) m)
+  wrong : {k : ℕ} (r : Role) → ((q : Role) → tag q < tag r → RightSection m q) → Fits m (placeOfRole m r)
+      → (n : ℕ) → n < length (judgedRecords r (sectionOf m r)) → ((i j : ℕ) → i < n → WrongIn m r i j → ⊥)
+      → WrongIn m r n k → ((j : ℕ) → j < k → WrongIn m r n j → ⊥) → ModelCause m k (recordIn m r n)
+  after : ((q : Role) → RightSection m q) → modelEnd m < length m → ModelCause m 4 (drop (modelEnd m) m)
+
+-- none of them is there
+pub record RightModel (m : List ℕ) : Type 0 where
+  pub sections : (q : Role) → RightSection m q
+  pub ends : length m ≤ modelEnd m
+
+-- ---- the trace
+
+-- not "an attack state number and then rule numbers, 2 bytes each"
+unfoldable pub Ragged : List ℕ → Type 0
+Ragged bytes = (length bytes < 2) ⊎ (length bytes % 2 ≡ 1)
+
+-- the trace is one section of such numbers
+pub record RightTrace (t : List ℕ) : Type 0 where
+  pub fits : Fits t 1
+  pub shape : Ragged (entriesOf t) → ⊥
+  pub ends : length t ≤ endAt t 1
+
+-- "4 for the trace (its section first, then bytes after it), then 5, then 9 (goal first, then steps in order)"; for 9
+-- "the two bytes in the trace" are the number that names what the model lacks
+pub data TraceCause (m t : List ℕ) : ℕ → List ℕ → Type 0 where
+  unfit : (Fits t 1 → ⊥) → TraceCause m t 4 (drop 1 t)
+  ragged : Fits t 1 → Ragged (entriesOf t) → TraceCause m t 4 (entriesOf t)
+  after : Fits t 1 → (Ragged (entriesOf t) → ⊥) → endAt t 1 < length t → TraceCause m t 4 (drop (endAt t 1) t)
+  count : RightTrace t → 1024 < length (traceOf t .steps) → TraceCause m t 5 (entriesOf t)
+  goal : {bytes : List ℕ} → RightTrace t → length (traceOf t .steps) ≤ 1024
+      → length (modelOf m .goals) ≤ traceOf t .goal
+      → length bytes ≡ 2 → word bytes ≡ traceOf t .goal → TraceCause m t 9 bytes
+  step : {bytes : List ℕ} → RightTrace t → length (traceOf t .steps) ≤ 1024
+      → traceOf t .goal < length (modelOf m .goals)
+      → (i : ℕ) → i < length (traceOf t .steps)
+      → ((j : ℕ) → j < i → getD (traceOf t .steps) j 0 < length (modelOf m .rules))
+      → length (modelOf m .rules) ≤ getD (traceOf t .steps) i 0
+      → length bytes ≡ 2 → word bytes ≡ getD (traceOf t .steps) i 0 → TraceCause m t 9 bytes
+
+-- ---- the pair
+
+-- "a file empty, or first byte not 1": otherwise it starts with 1
+unfoldable pub Starts : List ℕ → Type 0
+Starts file = (rest : List ℕ) × (file ≡ 1 ∷ rest)
+
+-- neither file is over its size
+pub record RightSizes (m t : List ℕ) : Type 0 where
+  pub model : length m ≤ 65536
+  pub trace : length t ≤ 4096
+
+-- and both are of version 1
+pub record RightHeads (m t : List ℕ) : Type 0 where
+  pub sizes : RightSizes m t
+  pub model : Starts m
+  pub trace : Starts t
+
+-- the cause of a refusal: the mark of the file at fault (0 the model, 1 the trace), the number and the bytes. "2
+-- (model, then trace); 3 (model, then trace); then 4 to 7 for the model .. Then 4 for the trace .., then 5, then 9";
+-- for 2 "the whole file", for 3 "the first byte, or the empty part of an empty file"
+pub data Cause (m t : List ℕ) : ℕ → ℕ → List ℕ → Type 0 where
+  long-model : 65536 < length m → Cause m t 0 2 m
+  long-trace : length m ≤ 65536 → 4096 < length t → Cause m t 1 2 t
+  version-model : RightSizes m t → (Starts m → ⊥) → Cause m t 0 3 (take 1 m)
+  version-trace : RightSizes m t → Starts m → (Starts t → ⊥) → Cause m t 1 3 (take 1 t)
+  in-model : {k : ℕ} {bytes : List ℕ} → RightHeads m t → ModelCause m k bytes → Cause m t 0 k bytes
+  in-trace : {k : ℕ} {bytes : List ℕ} → RightHeads m t → RightModel m → TraceCause m t k bytes → Cause m t 1 k bytes
+
+-- ---- none of these
+
+-- well-formed, in the same words: nothing that is judged before the first step is wrong
+pub record RightPair (m t : List ℕ) : Type 0 where
+  pub heads : RightHeads m t
+  pub model : RightModel m
+  pub trace : RightTrace t
+  pub count : length (traceOf t .steps) ≤ 1024
+  pub goal : traceOf t .goal < length (modelOf m .goals)
+  pub rules : (i : ℕ) → i < length (traceOf t .steps) → getD (traceOf t .steps) i 0 < length (modelOf m .rules)

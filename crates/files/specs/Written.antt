@@ -1,0 +1,62 @@
+-- The bytes of a file, written out from the lists that it is (document 01, "File layouts"): the layouts a second
+-- time, beside the reader's own definitions.
+use Prim.Native.Nat.{ℕ, _/_, _%_}
+use mathlib.Core.List.{List, [], _∷_, _++_, flatMap}
+use lib.ListN.{length}
+use Rattle.meaning.specs.Model.{Clause, Rule, Goal, Model, Trace}
+
+-- "All numbers are big-endian.": a number's two bytes
+unfoldable pub twoBytes : ℕ → List ℕ
+twoBytes n = n / 256 ∷ n % 256 ∷ []
+
+-- "2 bytes each"
+unfoldable pub factBytes : List ℕ → List ℕ
+unfolding flatMap twoBytes
+factBytes = flatMap twoBytes
+
+-- "A list is a 2-byte count and that many facts."
+unfoldable pub listBytes : List ℕ → List ℕ
+unfolding twoBytes factBytes
+listBytes fs = twoBytes (length fs) ++ factBytes fs
+
+-- "A record is a 2-byte length and that many bytes."
+unfoldable pub recordBytes : List ℕ → List ℕ
+unfolding twoBytes
+recordBytes bytes = twoBytes (length bytes) ++ bytes
+
+-- "A clause is its head and then the body facts, 2 bytes each."
+unfoldable pub clauseBytes : Clause → List ℕ
+unfolding recordBytes factBytes
+clauseBytes c = recordBytes (factBytes (c .head ∷ c .body))
+
+-- "A rule is three lists P, N, A"
+unfoldable pub ruleBytes : Rule → List ℕ
+unfolding recordBytes listBytes
+ruleBytes r = recordBytes (listBytes (r .P) ++ listBytes (r .N) ++ listBytes (r .A))
+
+-- "an attack state two, P and N"
+unfoldable pub goalBytes : Goal → List ℕ
+unfolding recordBytes listBytes
+goalBytes g = recordBytes (listBytes (g .P) ++ listBytes (g .N))
+
+-- "each a 4-byte length and then that many bytes"
+unfoldable pub sectionBytes : List ℕ → List ℕ
+unfolding twoBytes
+sectionBytes bytes = twoBytes (length bytes / 65536) ++ twoBytes (length bytes % 65536) ++ bytes
+
+-- "A file starts with a version byte, 1.", "Model sections, in order: 1. sizes .. 2. initial facts .. 3. clauses; 4.
+-- rules; 5. attack states: records."
+unfoldable pub writtenModel : Model → List ℕ
+unfolding sectionBytes twoBytes factBytes flatMap clauseBytes ruleBytes goalBytes
+writtenModel m =
+    1
+    ∷ sectionBytes (twoBytes (m .F))
+    ++ sectionBytes (factBytes (m .initial))
+    ++ sectionBytes (flatMap clauseBytes (m .clauses))
+    ++ sectionBytes (flatMap ruleBytes (m .rules))
+    ++ sectionBytes (flatMap goalBytes (m .goals))
+
+-- "The trace has one section: an attack state number and then rule numbers, 2 bytes each."
+unfoldable pub writtenTrace : Trace → List ℕ
+unfolding sectionBytes factBytes
+writtenTrace t = 1 ∷ sectionBytes (factBytes (t .goal ∷ t .steps))

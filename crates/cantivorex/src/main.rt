@@ -79,26 +79,37 @@ fn print_name(number: u8) -> bool {
         5 => io::write_all(STDOUT_FILENO, b"COUNT"),
         6 => io::write_all(STDOUT_FILENO, b"FACT"),
         7 => io::write_all(STDOUT_FILENO, b"ORDER"),
-        8 => io::write_all(STDOUT_FILENO, b"NEGATED"),
         9 => io::write_all(STDOUT_FILENO, b"NAME"),
         10 => io::write_all(STDOUT_FILENO, b"BLOCKED"),
         _ => io::write_all(STDOUT_FILENO, b"NOATTACK"),
     }
 }
 
-fn print_fact(fact: usize) -> bool {
-    if fact == 65535 {
-        return io::write_all(STDOUT_FILENO, b" fact none");
+// A word and the number after it, or `none` where there is no value.
+fn print_some(word: &[u8], n: usize) -> bool {
+    if n == 65535 {
+        return io::write_all(STDOUT_FILENO, word) && io::write_all(STDOUT_FILENO, b"none");
     }
-    print_value(b" fact ", fact)
+    print_value(word, n)
+}
+
+// The kind of the unmet condition.
+fn print_kind(kind: u8) -> bool {
+    match kind {
+        1 => io::write_all(STDOUT_FILENO, b" kind positive"),
+        2 => io::write_all(STDOUT_FILENO, b" kind negative"),
+        _ => io::write_all(STDOUT_FILENO, b" kind none"),
+    }
 }
 
 fn print_line(v: Verdict) {
     let whole = print_name(v.number)
         && print_value(b" step ", v.step)
-        && print_fact(v.fact)
+        && print_some(b" fact ", v.fact)
         && print_value(b" rounds ", v.rounds)
         && print_value(b" held ", v.held)
+        && print_kind(v.kind)
+        && print_some(b" round ", v.round)
         && io::write_all(STDOUT_FILENO, b"\n");
     if !whole {
         os::fail(b"the verdict's line");

@@ -27,7 +27,8 @@ over values out = take (length out) values ++ drop (length values) out
 -- a verdict's values, in the order in which they are written
 unfoldable pub values : Verdict → List ℕ
 values v =
-    v .number ∷ v .step ∷ v .fact ∷ v .rounds ∷ v .held ∷ v .part .mark ∷ v .part .start ∷ v .part .size ∷ []
+    v .number ∷ v .step ∷ v .fact ∷ v .rounds ∷ v .held ∷ v .kind ∷ v .round
+    ∷ v .part .mark ∷ v .part .start ∷ v .part .size ∷ []
 
 -- the answer with room for the verdict: its number, its values, and every byte and entry of both buffers
 pub record VerdictOut (m t : List ℕ) (before after : Lent) (out out' : List ℕ) (r : ℕ) : Type 0 where

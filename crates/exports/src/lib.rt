@@ -10,9 +10,9 @@ use closing::Closed;
 use files::Part;
 use files::both;
 
-// Writes a verdict's eight values to the front.
+// Writes a verdict's ten values to the front.
 fn put(v: Verdict, out: &mut [u64])
-    requires { ⌜ 8 ≤ length (now out) ⌝ }
+    requires { ⌜ 10 ≤ length (now out) ⌝ }
     ensures { λ _. ⌜ now (out .exit) ≡ over (values v) (now (out .entry)) ⌝ }
 {
     out[0] = v.number as u64;
@@ -20,13 +20,15 @@ fn put(v: Verdict, out: &mut [u64])
     out[2] = v.fact as u64;
     out[3] = v.rounds as u64;
     out[4] = v.held as u64;
+    out[5] = v.kind as u64;
+    out[6] = v.round as u64;
     let part = v.part;
-    out[5] = part.mark as u64;
-    out[6] = part.start as u64;
-    out[7] = part.size as u64;
+    out[7] = part.mark as u64;
+    out[8] = part.start as u64;
+    out[9] = part.size as u64;
 }
 
-// The verdict on a model and a trace: its number, and its eight values at the front of `out`. Without room for them the answer
+// The verdict on a model and a trace: its number, and its ten values at the front of `out`. Without room for them the answer
 // is 1 and nothing is changed.
 #[no_mangle]
 pub extern "C" fn cantivorex_check(
@@ -36,11 +38,11 @@ pub extern "C" fn cantivorex_check(
     table: &mut [u16],
     out: &mut [u64],
 ) -> u8
-    ensures { λ r. ⌜ ChecksOut (shorter (now (out .entry)) 8) (now (model .entry)) (now (trace .entry))
+    ensures { λ r. ⌜ ChecksOut (shorter (now (out .entry)) 10) (now (model .entry)) (now (trace .entry))
         (record { state = now (state .entry); table = now (table .entry) })
         (record { state = now (state .exit); table = now (table .exit) }) (now (out .entry)) (now (out .exit)) r ⌝ }
 {
-    if out.len() < 8 {
+    if out.len() < 10 {
         return 1;
     }
     let v = checking::check(model, trace, state, table);

@@ -1,6 +1,7 @@
 //! Random pairs for comparing programs: sound ones whose steps run, and damaged ones.
 //! A pair depends on its seed and index alone, so any one of a stream can be made again.
 
+use crate::bounds;
 use crate::read::{Attack, Clause, Model, Rule};
 use crate::{STATE_BYTES, TABLE_ENTRIES};
 
@@ -21,11 +22,14 @@ impl Rng {
     pub fn below(&mut self, n: usize) -> usize {
         (((self.draw() >> 32) * n as u64) >> 32) as usize
     }
-    fn one_in(&mut self, n: usize) -> bool {
+    pub(crate) fn one_in(&mut self, n: usize) -> bool {
         self.below(n) == 0
     }
-    fn of(&mut self, choices: &[usize]) -> usize {
+    pub(crate) fn of(&mut self, choices: &[usize]) -> usize {
         choices[self.below(choices.len())]
+    }
+    pub fn shuffle<T>(&mut self, list: &mut [T]) {
+        (1..list.len()).for_each(|i| list.swap(i, self.below(i + 1)));
     }
 }
 
@@ -48,9 +52,16 @@ impl Pair {
     }
 }
 
-/// The mixed stream: a bit under half sound, the rest damaged, now and then too little room.
+/// One pair in so many of the mixed stream is at a bound, the last of them.
+pub const AT_BOUNDS: u64 = 32;
+
+/// The mixed stream: a bit under half sound, the rest damaged or at the bounds, now and then too
+/// little room.
 pub fn pair(seed: u64, index: u64) -> Pair {
     let mut rng = Rng::new(seed, index);
+    if index % AT_BOUNDS == AT_BOUNDS - 1 {
+        return roomy(bounds::files(&mut rng, index / AT_BOUNDS));
+    }
     let (model, trace) = if rng.below(100) < 45 { sound_files(&mut rng) } else { damage(&mut rng) };
     let (mut state_len, mut table_len) = (STATE_BYTES, TABLE_ENTRIES);
     match rng.below(150) {
@@ -76,15 +87,18 @@ fn roomy((model, trace): (Vec<u8>, Vec<u8>)) -> Pair {
     Pair { model, trace, state_len: STATE_BYTES, table_len: TABLE_ENTRIES }
 }
 
-/// A starting state for closing by itself; one in eight has a bit from F on if F leaves any.
+/// A starting state for closing by itself; one in eight has a bit from F on if F leaves any, one in
+/// eight the last fact and most others.
 pub fn start_state(seed: u64, index: u64, facts: usize) -> Vec<u8> {
     let mut rng = Rng::new(seed ^ 0x57A7E, index);
     let mut state = vec![0; STATE_BYTES + rng.of(&[0, 0, 1, 40])];
     state[STATE_BYTES..].fill(rng.draw() as u8);
     let count = rng.below(facts.min(12) + 1);
     let mut chosen: Vec<usize> = (0..count).map(|_| rng.below(facts)).collect();
-    if facts < 4_096 && rng.one_in(8) {
-        chosen.push(facts + rng.one_in(2) as usize * rng.below(4_096 - facts));
+    match rng.below(8) {
+        0 if facts < 4_096 => chosen.push(facts + rng.below(2) * rng.below(4_096 - facts)),
+        1 => chosen.extend((0..facts).filter(|f| f + 1 == facts || !rng.one_in(4))),
+        _ => {}
     }
     chosen.iter().for_each(|f| state[f / 8] |= 1 << (f % 8));
     state
@@ -191,7 +205,7 @@ fn pick(rng: &mut Rng, count: usize, facts: usize, pass: impl Fn(usize) -> bool)
     sorted(drawn.filter(|f| pass(*f)).map(|f| f as u16).collect())
 }
 
-fn sorted(mut list: Vec<u16>) -> Vec<u16> {
+pub(crate) fn sorted(mut list: Vec<u16>) -> Vec<u16> {
     list.sort_unstable();
     list.dedup();
     list
@@ -220,7 +234,7 @@ fn some_clauses(rng: &mut Rng, size: &Size, initial: &[u16]) -> Vec<Clause> {
     out.truncate(wanted);
     match rng.below(3) {
         0 => out.reverse(),
-        1 => (1..out.len()).for_each(|i| out.swap(i, rng.below(i + 1))),
+        1 => rng.shuffle(&mut out),
         _ => {}
     }
     out
@@ -448,9 +462,9 @@ fn negate(rng: &mut Rng, model: &mut Model) {
 }
 
 /// A length or count in the file; `end` is where the bytes it covers end, for lengths.
-struct Field {
+pub(crate) struct Field {
     at: usize,
-    wide: usize,
+    pub(crate) wide: usize,
     end: usize,
 }
 
@@ -464,8 +478,14 @@ fn set_number(file: &mut [u8], field: &Field, value: usize) {
     file[field.at..field.at + field.wide].copy_from_slice(&bytes[4 - field.wide..]);
 }
 
+/// A length or count that says more than there is.
+pub(crate) fn raise(file: &mut [u8], field: &Field, more: usize) {
+    let value = number_at(file, field.at, field.wide).unwrap_or(0);
+    set_number(file, field, value + more);
+}
+
 /// The lengths and counts, as far as they can be followed.
-fn fields(file: &[u8], is_model: bool) -> Vec<Field> {
+pub(crate) fn fields(file: &[u8], is_model: bool) -> Vec<Field> {
     let mut out = Vec::new();
     let mut at = 1;
     for index in 0..if is_model { 5 } else { 1 } {

@@ -1,6 +1,7 @@
 //! The proved library beside the independent second program: each call is made of both, and all that they answer and leave is compared.
 
 pub mod plain;
+pub mod watch;
 
 use second::Verdict;
 use std::fmt::Debug;

@@ -256,7 +256,7 @@ fn bodies(clauses: usize, size: usize) -> Model {
             Clause { head: (40 + k).min(4_095) as u16, body }
         })
         .collect();
-    (1..order.len()).for_each(|i| order.swap(i, rng.below(i + 1)));
+    rng.shuffle(&mut order);
     let mut model = with(4_096, (0..40).collect(), order);
     while write_model(&model).len() > 65_536 {
         model.clauses.pop();

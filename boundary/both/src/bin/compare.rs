@@ -1,26 +1,50 @@
-//! `compare SEED COUNT`: random pairs, the proved library against the second program. The last line is 'COUNT passed, 0 failed'.
+//! `compare SEED COUNT`: random pairs, the proved library against the second program. The last line
+//! is 'COUNT passed, 0 failed'. The pairs are compared in a child process, so that the pair is known
+//! even if a call crashes.
 
+use both::watch;
 use second::gen::{self, Pair, Rng};
 use second::NAMES;
+use std::path::Path;
+use std::process::exit;
 
 fn main() {
-    let numbers: Vec<u64> = std::env::args().skip(1).filter_map(|arg| arg.parse().ok()).collect();
-    let [seed, count] = numbers[..] else {
-        eprintln!("usage: compare SEED COUNT");
-        std::process::exit(2);
-    };
+    let args: Vec<String> = std::env::args().skip(1).collect();
+    let number = |at: usize| args.get(at).and_then(|arg| arg.parse::<u64>().ok());
+    match (number(0), number(1), args.get(2)) {
+        (Some(seed), Some(count), None) => exit(parent(seed, count)),
+        (Some(seed), Some(count), Some(place)) => exit(child(seed, count, Path::new(place))),
+        _ => {
+            eprintln!("usage: compare SEED COUNT");
+            exit(2);
+        }
+    }
+}
+
+/// Has a child compare, and tells of the pair at which it died if it did.
+fn parent(seed: u64, count: u64) -> i32 {
+    match watch::run(&[seed.to_string(), count.to_string()]) {
+        watch::End::Exit(status) => status,
+        watch::End::Died { how, index } => {
+            println!("pair {index} of seed {seed}: the comparison died, {how}");
+            failed(&gen::pair(seed, index), index)
+        }
+    }
+}
+
+/// Compares pair after pair; the place is where the parent finds the pair that is being compared.
+fn child(seed: u64, count: u64, place: &Path) -> i32 {
+    let mut place = watch::Place::open(place);
     let mut tally = [0; 12];
     for index in 0..count {
+        place.set(index);
         let pair = gen::pair(seed, index);
         match compare(&pair, seed, index) {
             Ok(number) => tally[number as usize] += 1,
             Err(difference) => {
                 println!("pair {index} of seed {seed}: {difference}");
                 answers(&pair, seed, index);
-                hex_file("case.model", &pair.model);
-                hex_file("case.trace", &pair.trace);
-                println!("{index} passed, 1 failed");
-                std::process::exit(1);
+                return failed(&pair, index);
             }
         }
     }
@@ -28,11 +52,27 @@ fn main() {
     // A few pairs say nothing of the shares.
     if rare && count >= 10_000 {
         println!("a verdict comes up too seldom: the pairs do not try it");
-        std::process::exit(1);
+        return 1;
     }
     println!("{count} passed, 0 failed");
+    0
 }
 
+/// Shows a pair's files and leaves them to be tried again; the answer is the exit status.
+fn failed(pair: &Pair, index: u64) -> i32 {
+    let folder = Path::new(concat!(env!("CARGO_MANIFEST_DIR"), "/target/failed"));
+    let _ = std::fs::create_dir_all(folder);
+    for (name, bytes) in [("case.model", &pair.model), ("case.trace", &pair.trace)] {
+        hex_file(name, bytes);
+        let path = folder.join(name);
+        match std::fs::write(&path, bytes) {
+            Ok(()) => println!("written to {}", path.display()),
+            Err(error) => println!("not written to {}: {error}", path.display()),
+        }
+    }
+    println!("{index} passed, 1 failed");
+    1
+}
 /// One pair: a check with and without room for the verdict, closing by itself, and three places.
 fn compare(pair: &Pair, seed: u64, index: u64) -> Result<u8, String> {
     let Pair { model, trace, state_len, .. } = pair;

@@ -1,0 +1,43 @@
+//! What the pairs at the bounds are for: large values in every field of every verdict, so that a
+//! number cut short shows.
+
+mod common;
+use common::judge;
+use second::*;
+
+/// The greatest step, fact, rounds, held, start and length of each verdict.
+fn greatest() -> [[usize; 6]; 12] {
+    let mut most = [[0; 6]; 12];
+    // A dozen turns have each kind in most of its ways.
+    for index in (gen::AT_BOUNDS - 1..10_000).step_by(gen::AT_BOUNDS as usize) {
+        let pair = gen::pair(1, index);
+        let Verdict { number, step, fact, rounds, held, start, len, .. } =
+            judge(&pair.model, &pair.trace);
+        let fact = if fact == NONE { 0 } else { fact as usize };
+        let row = &mut most[number as usize];
+        for (so_far, value) in row.iter_mut().zip([step, fact, rounds, held, start, len]) {
+            *so_far = value.max(*so_far);
+        }
+    }
+    most
+}
+
+#[test]
+fn every_field_of_every_verdict_gets_large() {
+    let most = greatest();
+    let large = |number: u8, fields: &[usize]| {
+        let row = most[number as usize];
+        fields.iter().for_each(|f| assert!(row[*f] > 255, "field {f} of {number}: {row:?}"));
+    };
+    large(ATTACK, &[0, 2, 3]);
+    large(LONG, &[5]);
+    [SHAPE, COUNT, FACT, ORDER].iter().for_each(|number| large(*number, &[4, 5]));
+    // A record with an N has at most 198 bytes besides its length, a name has 2.
+    [NEGATED, NAME].iter().for_each(|number| large(*number, &[4]));
+    large(BLOCKED, &[0, 1, 2, 3, 4]);
+    large(NOATTACK, &[0, 1, 2, 3, 4]);
+    let any = |field: usize| most.iter().map(|row| row[field]).max().unwrap();
+    // Steps, facts and facts held at their bounds, sums and lengths of over two bytes, places in a model's last bytes.
+    assert_eq!((any(0), any(1), any(3)), (1_024, 4_095, 4_096));
+    assert!(any(2) > 65_535 && any(4) > 65_000 && any(5) > 65_536, "{most:?}");
+}

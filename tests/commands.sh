@@ -1,269 +1,427 @@
 #!/usr/bin/env bash
-# Tests the program and the two commands as people use them. The expected lines are document 01's, written here by hand.
-# Ends in 'N passed, M failed', and exits non-zero unless all passed.
+# Tests the analyst's command as people use it, through bin/cantivorex. Expected lines and words are written here by
+# hand. Ends in 'N passed, M failed', and exits non-zero unless all passed.
 set -u
-root=$(cd "$(dirname "${BASH_SOURCE[0]}")/.." && pwd)
-program=$root/target/bin/cantivorex
-desk=$root/samples/desk.model
-tmp=$(mktemp -d) || exit 1
-trap 'rm -rf "$tmp"' EXIT
-passed=0
-failed=0
+. "$(dirname "${BASH_SOURCE[0]}")/checks.sh"
+command=$root/bin/cantivorex
+program=$root/command/target/release/cantivorex
 
-# same LABEL EXPECTED ACTUAL
-same() {
-    if [ "$2" == "$3" ]; then
-        passed=$((passed + 1))
-    else
-        failed=$((failed + 1))
-        printf 'FAILED %s\n  expected: %s\n  actual:   %s\n' "$1" "$2" "$3"
-    fi
-}
-
-# has LABEL PART TEXT: the text has the part in it.
-has() {
-    case $3 in
-        *"$2"*) same "$1" yes yes ;;
-        *) same "$1" "something with '$2'" "$3" ;;
-    esac
-}
-
-# bytes HEX..: those bytes; spaces are for the reader.
-bytes() {
-    local hex=$*
-    printf "$(sed 's/../\\x&/g' <<<"${hex// /}")"
-}
-
-# zeros N: so many zero bytes.
-zeros() {
-    head -c "$1" /dev/zero
-}
-
-# ask: runs the program in the folder $tmp/case; what it printed is in out, its messages in err.
-ask() {
-    out=$(cd "$tmp/case" && "$program" 2>"$tmp/err"; printf .)
-    out=${out%.}
-    err=$(<"$tmp/err")
-}
-
-# command_run COMMAND ARG..: runs a command; what it printed is in out, its messages in err, its exit in status.
-command_run() {
-    out=$("$@" 2>"$tmp/err")
+# try WORD..: runs the command; what it printed is in out, its messages in err, its exit in status.
+try() {
+    out=$(timeout 60 "$command" "$@" 2>"$tmp/err")
     status=$?
     err=$(<"$tmp/err")
 }
 
-new_case() {
-    rm -rf "$tmp/case"
-    mkdir "$tmp/case"
+# says LABEL STATUS MESSAGE: what the last try came to, where it printed nothing.
+says() {
+    same "$1: exit" "$2" "$status"
+    same "$1: nothing printed" '' "$out"
+    has "$1: the message" "$3" "$err"
 }
 
-refused() {
-    printf '%s step 0 fact none rounds 0 held 0' "$1"
-}
-
-test_samples() {
-    same 'the desk model has 101 bytes' 101 "$(wc -c <"$desk" | tr -d ' ')"
-    same 'trace B is as in document 01' 0100000006000000010000 "$(od -An -v -tx1 "$root/samples/B.trace" | tr -d ' \n')"
+test_lines() {
     local name line
     while IFS='|' read -r name line; do
-        same "case $name" "$line" "$("$root/bin/cantivorex" "$desk" "$root/samples/$name.trace")"
-    done <<'LINES'
-A|ATTACK step 1 fact none rounds 4 held 4
-B|BLOCKED step 1 fact 5 rounds 2 held 2
-C|BLOCKED step 1 fact 3 rounds 4 held 4
-D|ATTACK step 1 fact none rounds 2 held 2
-E|NOATTACK step 0 fact 0 rounds 2 held 3
-F|NOATTACK step 1 fact 3 rounds 4 held 3
-G|NAME step 0 fact none rounds 0 held 0
-LINES
+        try "$desk" "$root/samples/$name.trace"
+        same "case $name" "$line" "$out"
+        same "case $name: exit" 0 "$status"
+    done <<<"$desk_lines"
+    same 'the whole output has one line end' $'BLOCKED step 1 fact 5 rounds 2 held 2\n.' \
+        "$("$command" check "$desk" "$root/samples/B.trace"; printf .)"
 }
 
-# small NAME MODEL LINE: a model without rules, and a trace that asks for attack state 0 without steps.
-small() {
-    bytes "$2" >"$tmp/small.model"
-    bytes 01 00000002 0000 >"$tmp/small.trace"
-    same "case $1" "$3" "$("$root/bin/cantivorex" "$tmp/small.model" "$tmp/small.trace")"
+# The desk model in parts, for damage.
+head_part='01 00000002 0006  00000006 0000 0001 0004'
+clauses='00000010 0006 0002 0000 0001  0006 0005 0002 0004'
+rules='00000024 000C 0001 0005 0001 0003 0001 0003  0008 0001 0000 0000 0000  000A 0001 0001 0000 0001 0001'
+goals='00000014 0008 0002 0003 0005 0000  0008 0001 0004 0001 0000'
+fine="$head_part $clauses $rules $goals"
+trace_a='01 00000004 0000 0000'
+
+# told NAME BYTES WORDS MODEL [TRACE]: the refusal's name and the second line, for files of hex digits. BYTES starts
+# with the file that they are in.
+told() {
+    bytes "$4" >"$tmp/m.model"
+    bytes "${5-$trace_a}" >"$tmp/t.trace"
+    told_files "$1" "$2" "$3"
 }
 
-# Each model: version; F; initial facts; clauses; rules; attack states.
-test_small_models() {
-    small H '01 00000002 0000  00000000  00000000  00000000  00000006 0004 0000 0000' \
-        'ATTACK step 0 fact none rounds 0 held 0'
-    small I '01 00000002 0001  00000000  00000004 0002 0000  00000000  00000008 0006 0001 0000 0000' \
-        'ATTACK step 0 fact none rounds 1 held 0'
-    small J '01 00000002 0001  00000000  00000006 0004 0000 0000  00000000  00000008 0006 0001 0000 0000' \
-        'NOATTACK step 0 fact 0 rounds 0 held 0'
-    small K '01 00000002 0002  00000000  0000000C 0004 0000 0001 0004 0001 0000  00000000  00000008 0006 0001 0000 0000' \
-        'NOATTACK step 0 fact 0 rounds 0 held 0'
-    small L '01 00000002 0004  00000002 0000  00000012 0004 0003 0002 0004 0002 0001 0004 0001 0000  00000000  00000008 0006 0001 0003 0000' \
-        'ATTACK step 0 fact none rounds 3 held 1'
-    small 'L reversed' \
-        '01 00000002 0004  00000002 0000  00000012 0004 0001 0000 0004 0002 0001 0004 0003 0002  00000000  00000008 0006 0001 0003 0000' \
-        'ATTACK step 0 fact none rounds 3 held 1'
+told_files() {
+    try "$tmp/m.model" "$tmp/t.trace"
+    same "$3: the line" "$(refused "$1")" "$out"
+    same "$3: exit" 0 "$status"
+    local word=${2%% *} file=m.model
+    [ "$word" = model ] || file=t.trace
+    same "$3: the words" "cantivorex: $1: the $word '$tmp/$file', ${2#* }, $3" "$err"
 }
 
-test_missing_files() {
-    local line
-    line=$(refused VERSION)$'\n'
-    new_case
-    ask
-    same 'both files missing' "$line" "$out"
-    cp "$desk" "$tmp/case/case.model"
-    ask
-    same 'the trace missing' "$line" "$out"
-    new_case
-    cp "$root/samples/A.trace" "$tmp/case/case.trace"
-    ask
-    same 'the model missing' "$line" "$out"
-    same 'a missing file is no failure' '' "$err"
-    cp "$desk" "$tmp/case/case.model"
-    ask
-    same 'the whole output has one line end' $'ATTACK step 1 fact none rounds 4 held 4\n' "$out"
+# repeat N HEX: the same digits so many times; count_up N: the numbers from 0, two bytes each.
+repeat() {
+    local i
+    for ((i = 0; i < $1; i++)); do printf '%s' "$2"; done
+}
+count_up() {
+    local i
+    for ((i = 0; i < $1; i++)); do printf '%04x' "$i"; done
 }
 
-# no_line LABEL FILE REASON: the program prints no line, and names the file and the reason.
-no_line() {
-    ask
-    same "$1: no line" '' "$out"
-    has "$1: the reason" "$2: $3" "$err"
+test_long() {
+    local wanted='the whole file: a model has at most 65536 bytes'
+    { bytes "$fine"; zeros 65436; } >"$tmp/m.model"
+    bytes "$trace_a" >"$tmp/t.trace"
+    told_files LONG 'model bytes 0 to 65536 (01 00 00 00 02 00 06 00 00 00 06 00 00 00 01 00 ..)' \
+        "$wanted"
+    bytes "$fine" >"$tmp/m.model"
+    { bytes "$trace_a"; zeros 4088; } >"$tmp/t.trace"
+    wanted='the whole file: a trace has at most 4096 bytes'
+    told_files LONG 'trace bytes 0 to 4096 (01 00 00 00 04 00 00 00 00 00 00 00 00 00 00 00 ..)' \
+        "$wanted"
 }
 
-# A file that can't be opened or read must not pass for a shorter one.
-test_unread_files() {
-    local file
-    for file in case.model case.trace; do
-        new_case
-        cp "$desk" "$tmp/case/case.model"
-        cp "$root/samples/A.trace" "$tmp/case/case.trace"
-        rm "$tmp/case/$file"
-        mkdir "$tmp/case/$file"
-        no_line "a folder named $file" "$file" 'Is a directory'
-        rmdir "$tmp/case/$file"
-        ln -s "$file" "$tmp/case/$file"
-        no_line "a link $file to itself" "$file" 'Too many levels of symbolic links'
-        ln -sfn /proc/self/mem "$tmp/case/$file"
-        no_line "a $file whose read fails" "$file" 'Input/output error'
+test_version() {
+    told VERSION 'model before byte 0' \
+        'the file is empty: a model starts with the version, 1' ''
+    told VERSION 'model byte 0 (07)' \
+        'the version: a model starts with 01' 07
+    told VERSION 'trace byte 0 (02)' \
+        'the version: a trace starts with 01' "$fine" '02 00000002 0000'
+}
+
+test_shape() {
+    told SHAPE 'model bytes 1 to 3 (00 00 00)' \
+        'section sizes: its length of 4 bytes was expected, the file has 3 bytes more' \
+        '01 000000'
+    told SHAPE 'model before byte 7' \
+        'section initial facts: its length of 4 bytes was expected, the file has 0 bytes more' \
+        '01 00000002 0006'
+    told SHAPE 'model bytes 5 to 7 (00 06 00)' \
+        'section sizes: it has 3 bytes, exactly 2 were expected' \
+        "01 00000003 000600 00000000 $clauses $rules $goals"
+    told SHAPE 'model bytes 7 to 14 (00 00 01 00 00 00 00 01)' \
+        'section initial facts: its length says 256 bytes, the file has 4 bytes more' \
+        '01 00000002 0006 00000100 0000 0001'
+    told SHAPE 'model bytes 11 to 13 (00 00 01)' \
+        'section initial facts: it has 3 bytes, 2 for each fact were expected' \
+        "01 00000002 0006 00000003 000001 $clauses $rules $goals"
+    told SHAPE 'model bytes 21 to 25 (00 09 00 02 00)' \
+        'section clauses, clause 0: its length says 9 bytes, its section has 3 bytes more' \
+        "$head_part 00000005 0009 0002 00 $rules $goals"
+    told SHAPE 'model byte 27 (00)' \
+        'section clauses, clause 1: its length of 2 bytes was expected, its section has 1 byte more' \
+        "$head_part 00000007 0004 0002 0000 00 $rules $goals"
+    told SHAPE 'model bytes 21 to 25 (00 03 00 02 00)' \
+        'section clauses, clause 0: it has 3 bytes, 2 for the head and 2 for each body fact were expected' \
+        "$head_part 00000005 0003 0002 00 $rules $goals"
+    told SHAPE 'model bytes 41 to 48 (00 06 00 05 00 00 00 00)' \
+        'section rules, rule 0: the count of its P says 5 facts, it has 4 bytes more' \
+        "$head_part $clauses 00000008 0006 0005 0000 0000 $goals"
+    told SHAPE 'model bytes 41 to 46 (00 04 00 00 00 00)' \
+        'section rules, rule 0: it ends where the 2 bytes of the count of its A were expected' \
+        "$head_part $clauses 00000006 0004 0000 0000 $goals"
+    told SHAPE 'model bytes 41 to 49 (00 07 00 00 00 00 00 00 01)' \
+        'section rules, rule 0: its lists end 1 byte before it does' \
+        "$head_part $clauses 00000009 0007 0000 0000 0000 01 $goals"
+    told SHAPE 'model bytes 101 to 102 (ab cd)' \
+        'after the last section, which ends at byte 101: nothing was expected' \
+        "$fine abcd"
+    told SHAPE 'trace before byte 5' \
+        'section goal and steps: it has 0 bytes, 2 for the goal and 2 for each step were expected' \
+        "$fine" '01 00000000'
+    told SHAPE 'trace byte 7 (ff)' \
+        'after the last section, which ends at byte 7: nothing was expected' \
+        "$fine" '01 00000002 0000 ff'
+    try "$root/samples/B.trace" "$desk"
+    same 'swapped files: the line' "$(refused SHAPE)" "$out"
+    has 'swapped files: the file' "the model '$root/samples/B.trace', bytes 5 to 10" "$err"
+    has 'swapped files: what is likely' '(it was given a trace for the model: are the two files swapped?)' "$err"
+    bytes "$head_part 00001770 $(repeat 1000 000400020000) $rules $goals" >"$tmp/m.model"
+    try "$root/samples/B.trace" "$tmp/m.model"
+    same 'swapped, with a model longer than a trace may be: the line' "$(refused LONG)" "$out"
+    has 'swapped, with a model longer than a trace may be' 'are the two files swapped?' "$err"
+    try "$desk" "$desk"
+    has 'a model twice' '(it was given a model for the trace)' "$err"
+}
+
+test_count_number() {
+    told COUNT 'model bytes 5 to 6 (10 01)' \
+        'section sizes: F is 4097, and at most 4096 is allowed' \
+        '01 00000002 1001 00000000 00000000 00000000 00000000'
+    told COUNT 'model bytes 15 to 52 (00 24 00 00 00 00 00 01 00 02 00 03 00 04 00 05 ..)' \
+        'section clauses, clause 0: its body has 17 facts, and at most 16 are allowed' \
+        "01 00000002 0040 00000000 00000026 0024 0000 $(count_up 17) 00000000 00000000"
+    told COUNT 'model bytes 19 to 92 (00 48 00 21 00 00 00 01 00 02 00 03 00 04 00 05 ..)' \
+        'section rules, rule 0: its P has 33 facts, and at most 32 are allowed' \
+        "01 00000002 0040 00000000 00000000 0000004A 0048 0021 $(count_up 33) 0000 0000 00000000"
+    told COUNT 'model bytes 407 to 412 (00 04 00 00 00 00)' \
+        'section attack states, goal 64: a model has at most 64 of them' \
+        "01 00000002 0000 00000000 00000000 00000000 00000186 $(repeat 65 000400000000)"
+    told COUNT 'trace bytes 5 to 2056 (00 00 00 00 00 00 00 00 00 00 00 00 00 00 00 00 ..)' \
+        'section goal and steps: it has 1025 steps, and at most 1024 are allowed' \
+        "$fine" "01 00000804 0000 $(repeat 1025 0000)"
+}
+
+test_fact_order() {
+    told FACT 'model bytes 11 to 14 (00 00 00 06)' \
+        'section initial facts: fact 6 stands in its list, and the model has facts 0 to 5' \
+        "01 00000002 0006 00000004 0000 0006 $clauses $rules $goals"
+    told FACT 'model bytes 21 to 24 (00 02 ff ff)' \
+        'section clauses, clause 0: fact 65535 stands in its head, and the model has facts 0 to 5' \
+        "$head_part 00000004 0002 FFFF $rules $goals"
+    told FACT 'model bytes 15 to 18 (00 02 00 00)' \
+        'section clauses, clause 0: fact 0 stands in its head, and the model has no fact' \
+        '01 00000002 0000 00000000 00000004 0002 0000 00000000 00000000'
+    told ORDER 'model bytes 41 to 52 (00 0a 00 00 00 02 00 04 00 01 00 00)' \
+        'section rules, rule 0: in its N fact 4 stands before fact 1: facts ascend' \
+        "$head_part $clauses 0000000C 000A 0000 0002 0004 0001 0000 $goals"
+    told ORDER 'model bytes 11 to 14 (00 01 00 01)' \
+        'section initial facts: in its list fact 1 stands before fact 1: facts ascend' \
+        "01 00000002 0006 00000004 0001 0001 $clauses $rules $goals"
+}
+
+test_negated_name() {
+    local why='no N may have a fact that is derived'
+    told NEGATED 'model bytes 41 to 50 (00 08 00 00 00 01 00 05 00 00)' \
+        "section rules, rule 0: fact 5 stands in its N and is the head of clause 1: $why" \
+        "$head_part $clauses 0000000A 0008 0000 0001 0005 0000 $goals"
+    cp "$root/samples/desk.names" "$tmp/m.names"
+    sed -i '/^rule [12]/d' "$tmp/m.names"
+    try "$tmp/m.model" "$tmp/t.trace"
+    has 'a name stands beside the number' 'rule 0 sign: fact 5 edits(ben) stands in its N' "$err"
+    rm "$tmp/m.names"
+    told NAME 'trace bytes 5 to 6 (00 02)' \
+        'the goal: it names goal 2, and the model has goals 0 to 1' "$fine" '01 00000002 0002'
+    told NAME 'trace bytes 9 to 10 (00 09)' \
+        'step 1: it names rule 9, and the model has rules 0 to 2' "$fine" '01 00000006 0000 0000 0009'
+    told NAME 'trace bytes 5 to 6 (00 00)' \
+        'the goal: it names goal 0, and the model has no goal' \
+        '01 00000002 0000 00000000 00000000 00000000 00000000' '01 00000002 0000'
+}
+
+test_usage() {
+    try
+    says 'no words' 2 'usage: cantivorex MODEL TRACE'
+    try "$desk" "$desk" "$desk"
+    says 'three names' 2 'usage: cantivorex [check] MODEL TRACE'
+    try "$desk" "$tmp/nowhere"
+    says 'a missing file' 2 "there is no file '$tmp/nowhere'"
+    try "$tmp" "$root/samples/A.trace"
+    says 'a folder' 2 "'$tmp' is a folder, not a file"
+    try "$desk" /proc/self/mem
+    says 'a read that fails' 2 "'/proc/self/mem' can't be read: Input/output error"
+    try "$desk" --frobnicate "$desk"
+    says 'an unknown option' 2 "there is no option '--frobnicate'"
+    try night "$tmp" --limit
+    says 'an option without its value' 2 '--limit wants a value'
+    try night "$tmp" --limit never
+    says 'a limit that is none' 2 "--limit wants seconds, more than 0, and not 'never'"
+    try night "$tmp" --limit 1e300
+    says 'a limit beyond all clocks' 2 "--limit wants seconds, more than 0, and not '1e300'"
+    try night "$tmp" --only SOME
+    says 'a verdict that is none' 2 "there is no verdict 'SOME'; the verdicts are ATTACK, ROOM,"
+    try night "$tmp" --tsv=yes
+    says 'a value too many' 2 '--tsv takes no value'
+    try night "$tmp" --model "$desk" --model "$desk"
+    says 'an option twice' 2 '--model is given twice'
+    try help nothing
+    says 'help for nothing' 2 "there is no command 'nothing'"
+    try "$desk" /dev/null
+    same 'an empty device is an empty file' "$(refused VERSION)" "$out"
+}
+
+test_help() {
+    local word
+    try --help
+    same 'help: exit' 0 "$status"
+    for word in check count night show; do
+        has "help names $word" "$word" "$out"
+        same "help $word" "$("$command" "$word" --help)" "$("$command" help "$word")"
+        has "help $word has an example" "Example" "$("$command" "$word" -h)"
     done
+    same 'help fits a terminal' '' \
+        "$(for word in '' check count night show; do "$command" $word --help; done | grep -E '.{81}')"
+    try --version
+    same 'the version' "cantivorex 0.1.0 library $(sha256sum "$root/target/staticlib/libexports.a" | head -c 16)" "$out"
 }
 
-# A read of the system's that moves few bytes at a time, and a read or a write that fails midway: the line is the same, or it is told.
-test_odd_calls() {
-    cat >"$tmp/odd.c" <<'CODE'
-#include <errno.h>
-#include <stdlib.h>
-#include <sys/syscall.h>
-#include <unistd.h>
-
-/* Whether this is the call whose number the variable gives. */
-static int fails(const char *variable, int call) {
-    if (!getenv(variable) || call != atoi(getenv(variable)))
-        return 0;
-    errno = EIO;
-    return 1;
+test_exit_verdict() {
+    local case number
+    for case in A0 B10 E11 G9; do
+        try --exit-verdict "$desk" "$root/samples/${case:0:1}.trace"
+        same "the verdict as exit, case ${case:0:1}" "${case:1}" "$status"
+    done
+    try --exit-verdict "$desk" "$tmp/nowhere"
+    same 'a missing file is no verdict' 102 "$status"
+    "$command" --exit-verdict "$desk" "$root/samples/A.trace" >/dev/full 2>/dev/null
+    same 'a lost line is no verdict' 101 $?
 }
 
-ssize_t read(int fd, void *to, size_t most) {
-    static int calls;
-    return fails("FAIL_READ", ++calls) ? -1 : syscall(SYS_read, fd, to, most < 7 ? most : 7);
+# Standard input, pipes, links, odd names, another folder.
+test_files() {
+    local line='BLOCKED step 1 fact 5 rounds 2 held 2'
+    same 'the trace from standard input' "$line" "$("$command" "$desk" - <"$root/samples/B.trace")"
+    same 'the model from a pipe' "$line" "$(cat "$desk" | "$command" check - "$root/samples/B.trace")"
+    same 'both from <(..)' "$line" "$("$command" <(cat "$desk") <(cat "$root/samples/B.trace"))"
+    try - -
+    says 'both from standard input' 2 'only one of the two files can be standard input'
+    mkfifo "$tmp/pipe"
+    try "$desk" "$tmp/pipe"
+    says 'a named pipe' 2 "'$tmp/pipe' is not read: a named pipe may wait for ever"
+    mkdir "$tmp/odd"
+    cp "$desk" "$tmp/odd/-the desk.model"
+    cp "$root/samples/B.trace" "$tmp/odd/"$'two\nlines.trace'
+    same 'odd names, from their folder' "$line" \
+        "$(cd "$tmp/odd" && "$command" -- '-the desk.model' $'two\nlines.trace')"
+    try "$desk" "$tmp/odd/"$'no\nsuch \e[2J.trace'
+    has 'a message is one line' "there is no file '$tmp/odd/no\\nsuch \\u{1b}[2J.trace'" "$err"
+    ln -s "$tmp/odd/-the desk.model" "$tmp/odd/link.model"
+    same 'a link to a file' "$line" "$("$command" "$tmp/odd/link.model" "$root/samples/B.trace")"
+    ln -s loop "$tmp/odd/loop"
+    try "$desk" "$tmp/odd/loop"
+    says 'a link to itself' 2 'Too many levels of symbolic links'
+    ln -s "$command" "$tmp/odd/first" && ln -s first "$tmp/odd/second"
+    same 'a link to the command' "$line" "$(cd / && "$tmp/odd/second" "$desk" "$root/samples/B.trace")"
 }
 
-ssize_t write(int fd, const void *from, size_t size) {
-    static int calls;
-    return fd == 1 && fails("FAIL_WRITE", ++calls) ? -1 : syscall(SYS_write, fd, from, size);
-}
-CODE
-    gcc -shared -fPIC -o "$tmp/odd.so" "$tmp/odd.c" || { same 'the odd calls are compiled' yes no; return; }
-    new_case
-    cp "$desk" "$tmp/case/case.model"
-    cp "$root/samples/B.trace" "$tmp/case/case.trace"
-    same 'seven bytes at a time' 'BLOCKED step 1 fact 5 rounds 2 held 2' "$(cd "$tmp/case" && LD_PRELOAD=$tmp/odd.so "$program")"
-    # 101 bytes take 15 reads and one for the end; the trace's first is the 17th
-    same 'the model fails midway' 'case.model: Input/output error' "$(cd "$tmp/case" && FAIL_READ=5 LD_PRELOAD=$tmp/odd.so "$program" 2>&1)"
-    same 'the model fails at its end' 'case.model: Input/output error' "$(cd "$tmp/case" && FAIL_READ=16 LD_PRELOAD=$tmp/odd.so "$program" 2>&1)"
-    same 'the trace fails midway' 'case.trace: Input/output error' "$(cd "$tmp/case" && FAIL_READ=18 LD_PRELOAD=$tmp/odd.so "$program" 2>&1)"
-    # the name, " step " and 1 are written; the fourth write is " fact "
-    same 'the line fails midway' "BLOCKED step 1the verdict's line: Input/output error" "$(cd "$tmp/case" && FAIL_WRITE=4 LD_PRELOAD=$tmp/odd.so "$program" 2>&1)"
-    same 'the line has no end' "the verdict's line: Input/output error" "$(cd "$tmp/case" && FAIL_WRITE=10 LD_PRELOAD=$tmp/odd.so "$program" 2>&1 >/dev/null)"
+# no_room LABEL WORD..: the command on a full disk.
+no_room() {
+    err=$("$command" "${@:2}" 2>&1 >/dev/full)
+    same "$1 on a full disk: exit" 1 $?
+    has "$1 on a full disk: the message" "the output can't be written: No space left on device" "$err"
 }
 
-# Zeros after the last section: not too long up to the bound, where the bytes left over are the fault.
-test_sizes() {
-    new_case
-    local model=$tmp/case/case.model trace=$tmp/case/case.trace
-    cp "$root/samples/A.trace" "$trace"
-    { cat "$desk"; zeros $((65536 - 101)); } >"$model"
-    ask
-    same 'a model of 65,536 bytes' "$(refused SHAPE)"$'\n' "$out"
-    { cat "$desk"; zeros $((65537 - 101)); } >"$model"
-    ask
-    same 'a model of 65,537 bytes' "$(refused LONG)"$'\n' "$out"
-    { cat "$desk"; zeros 1000000; } >"$model"
-    ask
-    same 'a model of a million bytes' "$(refused LONG)"$'\n' "$out"
-    cp "$desk" "$model"
-    { cat "$root/samples/A.trace"; zeros $((4096 - 9)); } >"$trace"
-    ask
-    same 'a trace of 4,096 bytes' "$(refused SHAPE)"$'\n' "$out"
-    { cat "$root/samples/A.trace"; zeros $((4097 - 9)); } >"$trace"
-    ask
-    same 'a trace of 4,097 bytes' "$(refused LONG)"$'\n' "$out"
-    : >"$model"
-    ask
-    same 'a trace too long comes before an empty model' "$(refused LONG)"$'\n' "$out"
+test_lost_output() {
+    no_room check "$desk" "$root/samples/B.trace"
+    no_room count count "$desk" "$root/samples/B.trace"
+    no_room show show "$desk"
+    no_room night night "$root/samples" --model "$desk"
+    no_room tsv night "$root/samples" --model "$desk" --tsv --only ATTACK
+    no_room help --help
+    no_room version --version
+    "$command" night "$root/samples" --model "$desk" >/dev/full 2>/dev/null && touch "$tmp/signed"
+    same 'a cut report is not signed' '' "$(ls "$tmp" | grep signed)"
+    "$command" "$desk" "$root/samples/G.trace" >/dev/null 2>/dev/full
+    same 'a reason that is lost: exit' 1 $?
+    err=$("$command" "$desk" "$root/samples/B.trace" 2>&1 >&-)
+    same 'a closed output: exit' 1 $?
+    has 'a closed output: the message' 'the output is closed' "$err"
+    err=$("$command" "$desk" "$root/samples/B.trace" 2>&1 1</dev/null)
+    same 'an output that is for reading: exit' 1 $?
+    # The reader has gone by the time when the lines come.
+    { sleep 0.3; "$command" night "$root/samples" --model "$desk" 2>"$tmp/err"; echo $? >"$tmp/status"; } | true
+    same 'a closed pipe: exit' 1 "$(<"$tmp/status")"
+    has 'a closed pipe: the message' "the output can't be written: Broken pipe" "$(<"$tmp/err")"
 }
 
-test_command() {
-    command_run "$root/bin/cantivorex"
-    same 'no names: exit' 2 "$status"
-    has 'no names: the message' 'usage: cantivorex MODEL TRACE' "$err"
-    command_run "$root/bin/cantivorex" "$desk" "$desk" "$desk"
-    same 'three names: exit' 2 "$status"
-    command_run "$root/bin/cantivorex" "$desk" "$tmp/nowhere"
-    same 'a missing file: exit' 2 "$status"
-    same 'a missing file: no line' '' "$out"
-    has 'a missing file: the message' "there is no file '$tmp/nowhere'" "$err"
-    command_run "$root/bin/cantivorex" "$tmp" "$root/samples/A.trace"
-    same 'a folder: exit' 2 "$status"
-    has 'a folder: the message' 'is a folder, not a file' "$err"
-    command_run "$root/bin/cantivorex" "$desk" /proc/self/mem
-    same 'no line: exit' 1 "$status"
-    same 'no line: nothing printed' '' "$out"
-    has 'no line: the message' 'no verdict: /proc/self/mem: Input/output error' "$err"
-    command_run "$root/bin/cantivorex" "$desk" /dev/null
-    same 'a refusal is a verdict too: exit' 0 "$status"
-    same 'an empty trace' "$(refused VERSION)" "$out"
-    mkdir "$tmp/my files"
-    cp "$desk" "$tmp/my files/-the desk.model"
-    cp "$root/samples/D.trace" "$tmp/my files/of D.trace"
-    command_run env -C "$tmp/my files" TMPDIR="$tmp/case" "$root/bin/cantivorex" '-the desk.model' 'of D.trace'
-    same 'names with spaces, from another folder' 'ATTACK step 1 fact none rounds 2 held 2' "$out"
-    same 'nothing is left in the temporary folder' '' "$(find "$tmp/case" -name 'tmp*')"
+test_show_and_count() {
+    try show "$desk"
+    same 'the desk model as text' "facts: 6
+  0 clerk(ana)
+  1 open(form)
+  2 edits(ana)
+  3 frozen
+  4 deputy(ben,ana)
+  5 edits(ben)
+initial facts: 0 clerk(ana), 1 open(form), 4 deputy(ben,ana)
+clauses: 2
+  clause 0: 2 edits(ana) from 0 clerk(ana), 1 open(form)
+  clause 1: 5 edits(ben) from 2 edits(ana), 4 deputy(ben,ana)
+rules: 3
+  rule 0 sign: needs 5 edits(ben); not 3 frozen; adds 3 frozen
+  rule 1 dismiss: needs 0 clerk(ana)
+  rule 2 look: needs 1 open(form); adds 1 open(form)
+attack states: 2
+  goal 0 ben edits a frozen form: needs 3 frozen, 5 edits(ben)
+  goal 1 ben is deputy and ana no clerk: needs 4 deputy(ben,ana); not 0 clerk(ana)" "$out"
+    try show "$root/samples/A.trace"
+    says 'a file that is no model' 1 'section sizes: it has 4 bytes, exactly 2 were expected'
+    try count "$desk" "$root/samples/C.trace"
+    same 'counting' "model '$desk': 6 facts, 2 clauses, 3 rules, 2 attack states
+state 0, the initial one: 3 stored, 2 reached by closing in 2 rounds, 1 not reached
+  stored:      0 clerk(ana), 1 open(form), 4 deputy(ben,ana)
+  reached:     2 edits(ana) (round 1), 5 edits(ben) (round 2)
+  not reached: 3 frozen
+state 1, after step 0, rule 0 sign: 4 stored, 2 reached by closing in 2 rounds, 0 not reached
+  stored:      0 clerk(ana), 1 open(form), 3 frozen, 4 deputy(ben,ana)
+  reached:     2 edits(ana) (round 1), 5 edits(ben) (round 2)
+  not reached: none
+BLOCKED: step 1, rule 0 sign, can't fire: fact 3 frozen is in the way, since it is stored
+BLOCKED step 1 fact 3 rounds 4 held 4" "$out"
+    ends A 'ATTACK: the only step fires, and goal 0 ben edits a frozen form is met in state 1'
+    ends B "BLOCKED: step 1, rule 0 sign, can't fire: fact 5 edits(ben) is missing"
+    ends E "NOATTACK: there are no steps, but goal 1 ben is deputy and ana no clerk is not met in state 0: $(
+        )fact 0 clerk(ana) is in the way, since it is stored"
+    try count "$desk" "$root/samples/G.trace"
+    has 'counting a refused trace: what the model has' '6 facts, 2 clauses' "$out"
+    has 'counting a refused trace: why' "NAME: the trace '$root/samples/G.trace', bytes 5 to 6 (00 02), the goal" "$out"
+    try count "$desk"
+    same 'counting a model alone ends with its initial state' '  not reached: 3 frozen' "${out##*$'\n'}"
+    bytes "01 00000002 0064 00000000 00000000 00000000 00000000" >"$tmp/m.model"
+    try count "$tmp/m.model"
+    same 'a model without a goal' "model '$tmp/m.model': 100 facts, 0 clauses, 0 rules, 0 attack states
+it has no attack state, so that no trace can be checked with it" "$out"
+    bytes "01 00000002 0064 00000000 00000000 00000000 00000006 0004 0000 0000" >"$tmp/m.model"
+    try count "$tmp/m.model"
+    has 'a long list is cut' '22, 23 and 76 more' "$out"
+    try count --all "$tmp/m.model"
+    has 'or not' ', 98, 99' "$out"
 }
 
-# A copy of the commands without the program, and a builder that puts it there or fails.
-test_building() {
-    local copy=$tmp/copy
-    mkdir -p "$copy/tools" "$copy/crates"
-    cp -R "$root/bin" "$copy/bin"
-    printf '#!/bin/sh\necho building "$@"\nmkdir -p target/bin && cp "%s" target/bin/\n' "$program" >"$copy/tools/rt"
-    chmod +x "$copy/tools/rt"
-    command_run env PATH="$copy/tools:$PATH" "$copy/bin/cantivorex" "$desk" "$root/samples/A.trace"
-    same 'a missing program is built' 'ATTACK step 1 fact none rounds 4 held 4' "$out"
-    same 'what the builder prints goes to standard error' 'building check cantivorex' "$err"
-    # The prover leaves a program as it is where no source has changed but in its date.
-    printf '#!/bin/sh\necho building "$@"\n' >"$copy/tools/rt"
-    touch -d 2001-01-01 "$copy/target/bin/cantivorex"
-    : >"$copy/crates/new.rt"
-    command_run env PATH="$copy/tools:$PATH" "$copy/bin/cantivorex" "$desk" "$root/samples/A.trace"
-    same 'a program older than a source is built again' 'building check cantivorex' "$err"
-    command_run env PATH="$copy/tools:$PATH" "$copy/bin/cantivorex" "$desk" "$root/samples/A.trace"
-    same 'and then it is taken as it is' '' "$err"
-    rm "$copy/target/bin/cantivorex"
-    printf '#!/bin/sh\nexit 1\n' >"$copy/tools/rt"
-    command_run env PATH="$copy/tools:$PATH" "$copy/bin/cantivorex" "$desk" "$root/samples/A.trace"
-    same 'a program that cannot be built: exit' 1 "$status"
-    has 'a program that cannot be built: the message' 'could not be built' "$err"
+# ends CASE WORDS: the last line but one of counting a case.
+ends() {
+    try count "$desk" "$root/samples/$1.trace"
+    same "how case $1 ends" "$2" "$(tail -n 2 <<<"$out" | head -n 1)"
+}
+
+# Document 003's Table 2: what holds at first, and what is gone after the first rule for a.
+test_table2() {
+    local folder=$root/samples/table2
+    mkdir "$tmp/made"
+    "$root/samples/tables/make" "$tmp/made" || same 'the samples are made' yes no
+    (cd "$tmp/made" && find . -type f) | sort >"$tmp/list"
+    same 'samples/ has what the tables make' '' \
+        "$(cd "$root/samples" && while read -r file; do cmp "$file" "$tmp/made/$file"; done <"$tmp/list" 2>&1)"
+    same 'and nothing else' "$(<"$tmp/list")" "$(cd "$root/samples" && find . -type f ! -path './tables/*' | sort)"
+    try night "$folder" --model "$folder/table2.model"
+    same 'the verdicts on Table 2' "NOATTACK step 1 fact 20 rounds 2 held 5           a-moves
+BLOCKED step 1 fact 0 rounds 2 held 5             a-moves-twice
+ATTACK step 0 fact none rounds 1 held 6           at-first
+NOATTACK step 0 fact 21 rounds 1 held 6           attack
+NOATTACK step 1 fact 20 rounds 2 held 5           attack-after
+5 traces with $folder/table2.model: ATTACK 1, BLOCKED 1, NOATTACK 3; 0 not read" "$out"
+    try count "$folder/table2.model" "$folder/a-moves.trace"
+    same 'Example 2' '  reached:     20 xs(a,f1) (round 1), 23 xs(b,f2) (round 1)
+  reached:     23 xs(b,f2) (round 1)' "$(grep reached: <<<"$out" | grep -v not)"
+    has 'Example 2: what is gone' 'goal 48 both is not met in state 1: fact 20 xs(a,f1) is missing' "$out"
+}
+
+# unfit LABEL REASON LINES: a names file that doesn't fit is told, and the numbers stand alone.
+unfit() {
+    cp "$desk" "$tmp/n.model"
+    printf '%b' "$3" >"$tmp/n.names"
+    try show "$tmp/n.model"
+    same "$1: exit" 0 "$status"
+    same "$1: told" "cantivorex: the names in '$tmp/n.names' are not used: $2" "$err"
+    has "$1: not used" 'clause 0: 2 from 0, 1' "$out"
+}
+
+test_names() {
+    unfit 'a number twice' 'line 3: fact 0 has a name already, x' 'fact 0 x\nfact 1 y\nfact 0 z\n'
+    unfit 'a fact that is not there' 'line 1: the model has no fact 6' 'fact 6 x\n'
+    unfit 'a rule that is not there' 'line 1: the model has no rule 3' 'rule 3 x\n'
+    unfit 'a goal that is not there' 'line 2: the model has no goal 2' '# goals\ngoal 2 x\n'
+    unfit 'no text' 'byte 7 is not text' 'fact 0 \0377\n'
+    unfit 'a character that moves the cursor' "line 1: it has a character that isn't plain text" 'fact 0 x\033[2J\n'
+    unfit 'no name' 'line 1: expected fact, rule or goal, a number and a name' 'fact 0\n'
+    unfit 'no number' 'line 1: expected fact, rule or goal, a number and a name' 'fact +1 x\n'
+    unfit 'another kind' 'line 1: expected fact, rule or goal, a number and a name' 'state 0 x\n'
+    printf 'fact 0 some clerk\r\n\n# no more\n' >"$tmp/n.names"
+    try show "$tmp/n.model"
+    has 'names with spaces, lines ended as elsewhere' 'clause 0: 2 from 0 some clerk, 1' "$out"
+    rm "$tmp/n.names" && mkfifo "$tmp/n.names"
+    try show "$tmp/n.model"
+    has 'a pipe of names' "'$tmp/n.names' is not read: it is a pipe or a device" "$err"
+    rm "$tmp/n.names"
 }
 
 # pair NAME CASE: the desk model and a sample trace under a name.
@@ -273,76 +431,291 @@ pair() {
 }
 
 test_night() {
+    local forged='ATTACK step 1 fact none rounds 4 held 4'
     mkdir "$tmp/night"
-    command_run "$root/bin/night" "$tmp/night"
-    same 'an empty folder: exit' 1 "$status"
-    same 'an empty folder: the line' '0 pairs; 0 without a partner, 0 not read' "$out"
-    has 'an empty folder: the message' 'there is no model and no trace' "$err"
+    try night "$tmp/night"
+    says 'an empty folder' 1 'there is no model and no trace'
+    pair only A
+    try night "$tmp/night"
+    same 'one pair' "ATTACK step 1 fact none rounds 4 held 4           only
+1 pair: ATTACK 1; 0 without a partner, 0 not read" "$out"
+    rm "$tmp"/night/*
     pair 'a b' B
     pair a A
-    pair 'Z  z' E
+    pair Z E
     pair a.1 C
-    command_run "$root/bin/night" "$tmp/night"
+    pair "$forged" G
+    pair "x"$'\n'"$forged" G
+    pair -dash D
+    try night "$tmp/night"
+    local why="bytes 5 to 6 (00 02), the goal: it names goal 2, and the model has goals 0 to 1"
     same 'all pairs: exit' 0 "$status"
-    same 'all pairs: in order of names' "Z  z: NOATTACK step 0 fact 0 rounds 2 held 3
-a: ATTACK step 1 fact none rounds 4 held 4
-a b: BLOCKED step 1 fact 5 rounds 2 held 2
-a.1: BLOCKED step 1 fact 3 rounds 4 held 4
-4 pairs: ATTACK 1, BLOCKED 2, NOATTACK 1; 0 without a partner, 0 not read" "$out"
+    same 'all pairs: in order of names, which can pass for nothing else' "\
+ATTACK step 1 fact none rounds 2 held 2           -dash
+NAME step 0 fact none rounds 0 held 0             '$forged'
+NOATTACK step 0 fact 0 rounds 2 held 3            Z
+ATTACK step 1 fact none rounds 4 held 4           a
+BLOCKED step 1 fact 5 rounds 2 held 2             'a b'
+BLOCKED step 1 fact 3 rounds 4 held 4             a.1
+NAME step 0 fact none rounds 0 held 0             'x\\n$forged'
+7 pairs: ATTACK 2, BLOCKED 2, NAME 2, NOATTACK 1; 0 without a partner, 0 not read
+refused: '$forged': NAME: the trace '$tmp/night/$forged.trace', $why
+refused: 'x\\n$forged': NAME: the trace '$tmp/night/x\\n$forged.trace', $why" "$out"
     same 'all pairs: no message' '' "$err"
-    rm "$tmp/night/a.trace" "$tmp/night/Z  z.model"
-    mkdir "$tmp/night/m.model"
-    : >"$tmp/night/m.trace"
-    : >"$tmp/night/notes.txt"
-    command_run "$root/bin/night" "$tmp/night"
-    same 'gaps: exit' 1 "$status"
-    same 'gaps: each in its place' "Z  z: no model
-a: no trace
-a b: BLOCKED step 1 fact 5 rounds 2 held 2
-a.1: BLOCKED step 1 fact 3 rounds 4 held 4
-m: not read
-3 pairs: BLOCKED 2; 2 without a partner, 1 not read" "$out"
-    has 'gaps: why a pair was not read' 'm.model: Is a directory' "$err"
-    has 'gaps: another file is told' 'notes.txt' "$err"
-    rm -r "$tmp/night/m.model" "$tmp/night/m.trace"
-    command_run "$root/bin/night" "$tmp/night"
-    same 'only files without a partner: exit' 1 "$status"
-    command_run "$root/bin/night" "$tmp/nowhere"
-    same 'no such folder: exit' 2 "$status"
-    has 'no such folder: the message' "there is no folder '$tmp/nowhere'" "$err"
-    command_run "$root/bin/night"
-    same 'no folder named: exit' 2 "$status"
+    try night --only blocked --only ATTACK -- "$tmp/night"
+    same 'some verdicts only' 4 "$(grep -cE '^(ATTACK|BLOCKED) ' <<<"$out")"
+    has 'some verdicts only: all are counted' '7 pairs: ATTACK 2, BLOCKED 2, NAME 2, NOATTACK 1;' "$out"
+    same 'some verdicts only: no others' '' "$(grep -E '^(NAME|NOATTACK) ' <<<"$out")"
 }
 
-# 200 pairs of twelve steps: eleven times r2 and then r0. Each r2 leaves the desk's first state, so that there are 13 states of 2 rounds.
-# The time is shown and not judged: it says as much of the machine as of the command.
+# Gaps in the folder of the night before.
+test_gaps() {
+    rm "$tmp/night/a.trace" "$tmp/night/Z.model" "$tmp"/night/*ATTACK*
+    mkdir "$tmp/night/m.model" "$tmp/night/old"
+    : >"$tmp/night/m.trace"
+    : >"$tmp/night/notes.txt"
+    cp "$root/samples/desk.names" "$tmp/night/a.names"
+    pair pipe A
+    rm "$tmp/night/pipe.trace"
+    mkfifo "$tmp/night/pipe.trace"
+    pair lost A
+    ln -sf nowhere "$tmp/night/lost.trace"
+    try night "$tmp/night"
+    same 'gaps: exit' 1 "$status"
+    same 'gaps: each in its place' "ATTACK step 1 fact none rounds 2 held 2           -dash
+no model                                          Z
+no trace                                          a
+BLOCKED step 1 fact 5 rounds 2 held 2             'a b'
+BLOCKED step 1 fact 3 rounds 4 held 4             a.1
+not read                                          lost
+not read                                          m
+not read                                          pipe
+6 pairs: ATTACK 1, BLOCKED 2; 2 without a partner, 3 not read
+not read: lost: there is no file '$tmp/night/lost.trace'
+not read: m: '$tmp/night/m.model' is a folder, not a file
+not read: pipe: '$tmp/night/pipe.trace' is not read: it is a pipe or a device
+without a partner: Z.trace, a.model" "$out"
+    same 'gaps: another file is told' "cantivorex: left out, neither a model nor a trace: 'notes.txt'" "$err"
+    try night "$tmp/nowhere"
+    says 'no such folder' 2 "the folder '$tmp/nowhere' can't be read: No such file or directory"
+    try night "$desk"
+    says 'a file for a folder' 2 'Not a directory'
+    try night
+    says 'no folder named' 2 'usage: cantivorex night FOLDER'
+    try night "$root/samples"
+    same 'a folder of traces for one model: exit' 1 "$status"
+    same 'a folder of traces for one model: what to type' \
+        "to check all traces with the one model: cantivorex night $root/samples --model $desk" "${out##*$'\n'}"
+}
+
+test_one_model() {
+    local name line expected=''
+    while IFS='|' read -r name line; do
+        expected+=$(printf '%-48s  %s' "$line" "$name")$'\n'
+    done <<<"$desk_lines"
+    try night "$root/samples" --model "$desk"
+    same 'one model: exit' 0 "$status"
+    expected+="7 traces with $desk: ATTACK 2, BLOCKED 2, NAME 1, NOATTACK 2; 0 not read"
+    same 'one model for all traces' "$expected" "$(head -n 8 <<<"$out")"
+    has 'one model: the refused one' "refused: G: NAME: the trace '$root/samples/G.trace'" "$out"
+    same 'one model from a pipe' "${out//"$desk"/-}" "$("$command" night "$root/samples" --model=- <"$desk")"
+    try night "$root/samples" --model "$tmp/nowhere"
+    says 'a model that is missing' 2 "there is no file '$tmp/nowhere'"
+}
+
+test_tsv() {
+    local version sums
+    version=$("$command" --version)
+    sums=$(sha256sum "$desk" "$root/samples/B.trace" | cut -c 1-64 | paste -s)
+    mkdir "$tmp/tsv"
+    cp "$desk" "$tmp/tsv/a"$'\t'"b.model"
+    cp "$root/samples/B.trace" "$tmp/tsv/a"$'\t'"b.trace"
+    { cat "$desk"; zeros 70000; } >"$tmp/tsv/c.model"
+    : >"$tmp/tsv/c.trace"
+    : >"$tmp/tsv/d.trace"
+    try night "$tmp/tsv" --tsv
+    same 'tsv: exit' 1 "$status"
+    same 'tsv: every row has the same columns' 13 "$(awk -F '\t' '{ print NF }' <<<"$out" | sort -u)"
+    same 'tsv: what they are' \
+        'name verdict step fact rounds held file start size model_sha256 trace_sha256 seconds checker' \
+        "$(head -n 1 <<<"$out" | tr '\t' ' ')"
+    same 'tsv: a verdict' "a\\tb"$'\t'"BLOCKED"$'\t1\t5\t2\t2\ttrace\t9\t2\t'"$sums"$'\t'"$version" \
+        "$(sed -n 2p <<<"$out" | cut -f 1-11,13)"
+    same 'tsv: a file over its size has no sum' \
+        "c LONG 0 none 0 0 model 0 65537 - $(sha256sum </dev/null | cut -c 1-64)" \
+        "$(sed -n 3p <<<"$out" | cut -f 1-11 | tr '\t' ' ')"
+    same 'tsv: no pair' "d no model - - - - - - - - -" "$(sed -n 4p <<<"$out" | cut -f 1-11 | tr '\t' ' ')"
+    has 'tsv: the count goes elsewhere' '2 pairs: BLOCKED 1, LONG 1; 1 without a partner, 0 not read' "$err"
+    err=$(PATH=$tmp "$program" night "$tmp/tsv" --tsv 2>&1 >/dev/null)
+    same 'tsv without sha256sum: exit' 1 $?
+    has 'tsv without sha256sum: the message' 'there is no SHA-256' "$err"
+}
+
+# 200 pairs of twelve steps: eleven times r2 and then r0. Each r2 leaves the desk's first state, so that there are 13
+# states of 2 rounds. The time is shown and not judged: it says as much of the machine as of the command.
 test_two_hundred() {
     local i from to
     mkdir "$tmp/many"
     for ((i = 0; i < 200; i++)); do
         cp "$desk" "$tmp/many/$i.model"
-        bytes 01 0000001A 0000 0002 0002 0002 0002 0002 0002 0002 0002 0002 0002 0002 0000 >"$tmp/many/$i.trace"
+        bytes "01 0000001A 0000 $(repeat 11 0002) 0000" >"$tmp/many/$i.trace"
     done
     from=$(date +%s%N)
-    command_run "$root/bin/night" "$tmp/many"
+    try night "$tmp/many"
     to=$(date +%s%N)
     printf 'measured: 200 pairs of twelve steps in %s ms\n' $(((to - from) / 1000000))
     same '200 pairs: exit' 0 "$status"
-    same '200 pairs: one line for each, and the count' 201 "$(wc -l <<<"$out" | tr -d ' ')"
-    same '200 pairs: the lines' 'ATTACK step 12 fact none rounds 26 held 4' "$(sed -n '1,200s/^[0-9]*: //p' <<<"$out" | sort -u)"
+    same '200 pairs: the lines' '200 ATTACK step 12 fact none rounds 26 held 4' \
+        "$(head -n 200 <<<"$out" | cut -c 1-41 | sort | uniq -c | tr -s ' ' | sed 's/^ //')"
+    same '200 pairs: the names' "$(seq 0 199 | LC_ALL=C sort)" "$(head -n 200 <<<"$out" | cut -c 51-)"
     same '200 pairs: the count' '200 pairs: ATTACK 200; 0 without a partner, 0 not read' "${out##*$'\n'}"
+    "$command" night "$tmp/many" >"$tmp/first" &
+    "$command" night "$tmp/many" >"$tmp/second"
+    wait $!
+    same 'two at once' "$out$out" "$(<"$tmp/first")$(<"$tmp/second")"
 }
 
-test_samples
-test_small_models
-test_missing_files
-test_unread_files
-test_odd_calls
-test_sizes
-test_command
-test_building
-test_night
-test_two_hundred
+# A limit that nothing can keep, and one that everything keeps.
+test_limit() {
+    try night "$root/samples" --model "$desk" --limit 0.000001
+    same 'a limit passed: exit' 1 "$status"
+    same 'a limit passed: the lines' '7 not answered within 0.000001 s' \
+        "$(head -n 7 <<<"$out" | cut -c 1-30 | sort | uniq -c | tr -s ' ' | sed 's/^ //')"
+    same 'a limit passed: the names' 'not answered within 0.000001 s: A, B, C, D, E, F, G' "${out##*$'\n'}"
+    has 'a limit passed: the count' '7 traces with '"$desk"'; 0 not read, 7 not answered within 0.000001 s' "$out"
+    try night "$tmp/many" --limit 30
+    same 'a limit kept: exit' 0 "$status"
+    same 'a limit kept: the count' \
+        '200 pairs: ATTACK 200; 0 without a partner, 0 not read, 0 not answered within 30 s' "${out##*$'\n'}"
+}
 
-printf '%s passed, %s failed\n' "$passed" "$failed"
-[ "$failed" -eq 0 ]
+# A trace that takes more than a second to be opened, on a terminal and elsewhere.
+test_progress() {
+    cat >"$tmp/slow.c" <<'CODE'
+#define _GNU_SOURCE
+#include <fcntl.h>
+#include <string.h>
+#include <sys/syscall.h>
+#include <unistd.h>
+
+int open64(const char *path, int flags, ...) {
+    if (strstr(path, "slow.trace"))
+        usleep(1300000);
+    return syscall(SYS_openat, AT_FDCWD, path, flags, 0);
+}
+CODE
+    gcc -shared -fPIC -o "$tmp/slow.so" "$tmp/slow.c" || { same 'the slow opening is compiled' yes no; return; }
+    mkdir "$tmp/slow"
+    cp "$root/samples/A.trace" "$tmp/slow/quick.trace"
+    cp "$root/samples/A.trace" "$tmp/slow/slow.trace"
+    local run="env LD_PRELOAD=$tmp/slow.so $program night $tmp/slow --model $desk"
+    err=$($run 2>&1 >/dev/null)
+    same 'a slow pair is told' 'cantivorex: slow took 1.3 s' "$err"
+    out=$(script -qec "$run" /dev/null </dev/null)
+    has 'a terminal sees how far it is' '1 of 2 done in 1 s, waiting for slow' "$out"
+}
+
+# as_nobody WORD..: without the rights of the superuser, whom no mode stops.
+as_nobody() {
+    if [ "$(id -u)" -eq 0 ]; then
+        setpriv --reuid=65534 --regid=65534 --clear-groups "$@"
+    else
+        "$@"
+    fi
+}
+
+test_rights() {
+    local folder=$tmp/rights
+    chmod 755 "$tmp"
+    mkdir "$folder" "$folder/closed"
+    cp "$program" "$folder/program"
+    cp "$desk" "$folder/desk.model"
+    cp "$root/samples/A.trace" "$folder/open.trace"
+    cp "$root/samples/A.trace" "$folder/shut.trace"
+    chmod 000 "$folder/closed" "$folder/shut.trace"
+    err=$(as_nobody "$folder/program" night "$folder/closed" 2>&1)
+    same 'a folder without rights: exit' 2 $?
+    has 'a folder without rights: the message' "the folder '$folder/closed' can't be read: Permission denied" "$err"
+    err=$(as_nobody "$folder/program" "$folder/desk.model" "$folder/shut.trace" 2>&1)
+    same 'a file without rights: exit' 2 $?
+    has 'a file without rights: the message' "'$folder/shut.trace' can't be read: Permission denied" "$err"
+    out=$(as_nobody "$folder/program" night "$folder" --model "$folder/desk.model" 2>/dev/null)
+    same 'a file without rights in a night: exit' 1 $?
+    has 'a file without rights in a night' "shut: '$folder/shut.trace' can't be read: Permission denied" "$out"
+    chmod 755 "$folder/closed"
+}
+
+# A copy of bin/ without the program, and builders that put it there or fail.
+test_building() {
+    local copy=$tmp/copy
+    mkdir -p "$copy/tools" "$copy/crates/one/src" "$copy/command/src" "$copy/target/staticlib"
+    cp -R "$root/bin" "$copy/bin"
+    ln -s "$copy/bin/cantivorex" "$tmp/elsewhere"
+    stub rt ': >target/staticlib/libexports.a'
+    stub cargo "sleep 0.5; mkdir -p command/target/release && cp '$program' command/target/release/"
+    command=$tmp/elsewhere PATH=$copy/tools:$PATH
+    ("$command" "$desk" "$root/samples/A.trace" >"$tmp/first" 2>"$tmp/first.err") &
+    try "$desk" "$root/samples/A.trace"
+    wait $!
+    local line='ATTACK step 1 fact none rounds 4 held 4'
+    same 'two first runs at once: both answer' "$line $line" "$out $(<"$tmp/first")"
+    same 'two first runs at once: one builds, one waits' \
+        $'cantivorex: building, once, some minutes\ncantivorex: waiting for another build' \
+        "$(printf '%s\n' "$err" "$(<"$tmp/first.err")" | sort)"
+    same 'what is built' $'cargo build\nrt staticlib' "$(sort "$copy/built")"
+    try "$desk" "$root/samples/A.trace"
+    same 'and then it is taken as it is' "$line" "$out$err"
+    sleep 0.01
+    : >"$copy/crates/one/src/new.rt"
+    try "$desk" "$root/samples/A.trace"
+    same 'a program older than a source is built again' 'cantivorex: building, once, some minutes' "$err"
+    try "$desk" "$root/samples/A.trace"
+    same 'but once' '' "$err"
+    : >"$copy/built"
+    : >"$copy/command/src/new.rs"
+    stub cargo 'echo the reason; exit 1'
+    try "$desk" "$root/samples/A.trace"
+    same 'a library that is new is taken as it is' 'cargo build' "$(<"$copy/built")"
+    same 'what cannot be built: exit' 1 "$status"
+    same 'what cannot be built: no line' '' "$out"
+    same 'what cannot be built: the build shows why' \
+        "cantivorex: building, once, some seconds
+some output
+the reason
+cantivorex: it could not be built: see the lines above" "$err"
+}
+
+# stub TOOL WORK: a tool that says something, notes that it was called, and does some work.
+stub() {
+    printf '#!/bin/sh\necho some output\necho %s "$1" >>"%s"\n%s\n' "$1" "$copy/built" "$2" >"$copy/tools/$1"
+    chmod +x "$copy/tools/$1"
+}
+
+# Built before anything is timed.
+"$command" --version >/dev/null || exit 1
+test_lines
+test_long
+test_version
+test_shape
+test_count_number
+test_fact_order
+test_negated_name
+test_usage
+test_help
+test_exit_verdict
+test_files
+test_lost_output
+test_show_and_count
+test_table2
+test_names
+test_night
+test_gaps
+test_one_model
+test_tsv
+test_two_hundred
+test_limit
+test_progress
+test_rights
+# The last, since it changes what the command is.
+test_building
+summary

@@ -1,5 +1,6 @@
 #!/usr/bin/env bash
-# Runs every command in README.md and docs/GUIDE.md that stands behind '$ ', and compares what it prints with the lines under it.
+# Runs every command in README.md and docs/GUIDE.md that stands behind '$ ', and compares what it prints with the lines
+# under it.
 set -uo pipefail
 cd "$(dirname "${BASH_SOURCE[0]}")/.." || exit 1
 passed=0

@@ -1,0 +1,148 @@
+//! `count MODEL [TRACE]`: count the facts before you believe a trace. The library is asked about each prefix of
+//! the trace; every figure about a state is its answer, or the number of facts for which it gave one.
+
+use crate::args::{Args, Known};
+use crate::endings::ending;
+use crate::failure::{unanswered, Failure};
+use crate::files::Pair;
+use crate::judge::{self, is_refusal, Judged};
+use crate::layout::{self, Model};
+use crate::names::Names;
+use crate::output::{counted, listed, quoted, Output};
+use crate::places::refusal;
+use crate::{usage, Command};
+
+pub const COMMAND: Command = Command {
+    name: "count",
+    usage: "count MODEL [TRACE] [--all]",
+    brief: "the facts of each state that a trace reaches, and how it ends, in words",
+    help: "\
+First what the model has. Then for each state that the trace reaches (without
+TRACE the initial one): the facts stored, those that closing reaches with the
+round of each, the number of rounds, and the facts not reached. Then how the
+trace ends: which condition, of which rule or goal, is missing or in the way.
+Names stand beside the numbers where NAME.names lies beside NAME.model.
+
+  --all  lists of more than 24 facts are shown whole
+
+Examples:
+  cantivorex count samples/desk.model
+  cantivorex count samples/desk.model samples/B.trace",
+    known: &[Known { name: "--all", has_value: false }],
+    run,
+};
+
+/// A longer list is cut unless all is asked for.
+const LISTED: usize = 24;
+
+fn run(args: &Args) -> Result<u8, Failure> {
+    let most = if args.has("--all") { usize::MAX } else { LISTED };
+    let (pair, has_trace) = match &args.operands[..] {
+        [model, trace] => (Pair::read(model, trace)?, true),
+        [model] => (Pair::of_model(model)?, false),
+        _ => return Err(usage(&COMMAND)),
+    };
+    let judged = judge::check(&pair.model, &pair.trace);
+    let names = Names::beside(&pair.model_name, &pair.model)?;
+    let mut output = Output::open()?;
+    let is_model_fine = !is_refusal(&judged.verdict) || judged.verdict.mark == 1;
+    if is_model_fine {
+        let model = Model::read(&pair.model);
+        output.line(&sizes(&pair, &model))?;
+        let mut report = Report { pair: &pair, model, names: &names, most, output: &mut output };
+        report.states(&judged, has_trace)?;
+    }
+    if is_refusal(&judged.verdict) {
+        output.line(&match is_model_fine && !has_trace {
+            true => "it has no attack state, so that no trace can be checked with it".to_string(),
+            false => refusal(&judged.verdict, &pair, &names),
+        })?;
+    }
+    output.flush()?;
+    Ok(0)
+}
+
+fn sizes(pair: &Pair, model: &Model) -> String {
+    let [facts, clauses, rules, goals] = [
+        (model.facts, "fact"),
+        (model.clauses.len(), "clause"),
+        (model.rules.len(), "rule"),
+        (model.goals.len(), "attack state"),
+    ]
+    .map(|(count, word)| counted(count, word));
+    format!("model {}: {facts}, {clauses}, {rules}, {goals}", quoted(&pair.model_name))
+}
+
+struct Report<'a> {
+    pair: &'a Pair,
+    model: Model,
+    names: &'a Names,
+    most: usize,
+    output: &'a mut Output,
+}
+
+impl Report<'_> {
+    /// The states reached, each by its own check, and the end.
+    fn states(&mut self, last: &Judged, has_trace: bool) -> Result<(), Failure> {
+        if is_refusal(&last.verdict) {
+            return Ok(());
+        }
+        let trace = layout::trace_names(&self.pair.trace);
+        let (goal, steps) = (trace[0], &trace[1..]);
+        for count in 0..=last.verdict.step {
+            let prefix = layout::trace(goal, &steps[..count]);
+            let heading = match count {
+                0 => "state 0, the initial one".to_string(),
+                _ => format!(
+                    "state {count}, after step {}, rule {}",
+                    count - 1,
+                    self.names.rule(steps[count - 1])
+                ),
+            };
+            self.state(&heading, &judge::check(&self.pair.model, &prefix))?;
+            // A long trace shows a state as soon as it is reached.
+            self.output.flush()?;
+        }
+        if has_trace {
+            self.output.line(&ending(last, goal, steps, self.names))?;
+            self.output.line(&last.verdict.line())?;
+        }
+        Ok(())
+    }
+
+    fn state(&mut self, heading: &str, judged: &Judged) -> Result<(), Failure> {
+        let rounds = judged.rounds(&self.pair.model).map_err(|number| {
+            unanswered(format!(
+                "the library refused to close a state that it had reached: {number}"
+            ))
+        })?;
+        let (stored, others): (Vec<usize>, Vec<usize>) =
+            (0..self.model.facts).partition(|fact| judged.is_stored(*fact));
+        let (reached, missing): (Vec<usize>, Vec<usize>) =
+            others.into_iter().partition(|fact| judged.round(*fact).is_some());
+        let held = judged.verdict.held;
+        let (by_closing, not_reached) = (reached.len(), missing.len());
+        let in_rounds = counted(rounds, "round");
+        self.output.line(&format!(
+            "{heading}: {held} stored, {by_closing} reached by closing in {in_rounds}, {not_reached} not reached"
+        ))?;
+        self.facts("stored", &stored, |_| None)?;
+        self.facts("reached", &reached, |fact| judged.round(fact))?;
+        self.facts("not reached", &missing, |_| None)
+    }
+
+    /// A list of facts, with rounds where there are any.
+    fn facts(
+        &mut self,
+        word: &str,
+        facts: &[usize],
+        round: impl Fn(usize) -> Option<usize>,
+    ) -> Result<(), Failure> {
+        let entries = facts.iter().map(|fact| match round(*fact) {
+            Some(round) => format!("{} (round {round})", self.names.fact(*fact)),
+            None => self.names.fact(*fact),
+        });
+        let text = listed(entries, self.most);
+        self.output.line(&format!("  {:<13}{text}", format!("{word}:")))
+    }
+}

@@ -1,0 +1,273 @@
+//! The sections and records of a file, for people. What a file is worth the library has judged; this reader
+//! follows it as far as its lengths go. A later version of the model is one more list of roles, a later section
+//! one more role.
+
+use crate::output::counted;
+use Role::*;
+
+#[derive(Clone, Copy, Debug, PartialEq, Eq)]
+pub enum Role {
+    Sizes,
+    Initial,
+    Clauses,
+    Rules,
+    Goals,
+    Trace,
+}
+
+/// The sections of a model, in order, and of a trace.
+pub const MODEL: &[Role] = &[Sizes, Initial, Clauses, Rules, Goals];
+pub const TRACE: &[Role] = &[Trace];
+
+/// The most facts and steps.
+pub const FACTS: usize = 4_096;
+pub const STEPS: usize = 1_024;
+
+/// How the records of a section are called, and how many there may be.
+pub struct Kind {
+    pub word: &'static str,
+    pub most: usize,
+}
+
+impl Role {
+    pub fn section(self) -> &'static str {
+        match self {
+            Sizes => "sizes",
+            Initial => "initial facts",
+            Clauses => "clauses",
+            Rules => "rules",
+            Goals => "attack states",
+            Trace => "goal and steps",
+        }
+    }
+
+    /// None for a section of bare numbers.
+    pub fn kind(self) -> Option<Kind> {
+        match self {
+            Clauses => Some(Kind { word: "clause", most: 4_096 }),
+            Rules => Some(Kind { word: "rule", most: 2_048 }),
+            Goals => Some(Kind { word: "goal", most: 64 }),
+            Sizes | Initial | Trace => None,
+        }
+    }
+}
+
+/// One list of a record or of a section of bare numbers: how it is called, its bound, its numbers.
+pub struct List {
+    pub word: &'static str,
+    pub most: usize,
+    pub numbers: Vec<usize>,
+}
+
+impl List {
+    fn new(word: &'static str, most: usize, bytes: &[u8]) -> List {
+        let numbers = bytes.chunks_exact(2).map(number).collect();
+        List { word, most, numbers }
+    }
+}
+
+/// Big-endian.
+fn number(bytes: &[u8]) -> usize {
+    bytes.iter().fold(0, |value, byte| value << 8 | *byte as usize)
+}
+
+/// The lists of a record (without its length) or of a bare section; or, in words, why its bytes have not that shape.
+pub fn lists(role: Role, bytes: &[u8]) -> Result<Vec<List>, String> {
+    let size = bytes.len();
+    let fits = |is_fit: bool, wanted: &str| match is_fit {
+        true => Ok(()),
+        false => Err(format!("it has {}, {wanted}", counted(size, "byte"))),
+    };
+    match role {
+        Sizes => {
+            fits(size == 2, "exactly 2 were expected")?;
+            Ok(vec![List::new("F", 1, bytes)])
+        }
+        Initial => {
+            fits(size.is_multiple_of(2), "2 for each fact were expected")?;
+            Ok(vec![List::new("list", FACTS, bytes)])
+        }
+        Trace => {
+            fits(
+                size > 0 && size.is_multiple_of(2),
+                "2 for the goal and 2 for each step were expected",
+            )?;
+            Ok(vec![List::new("list", STEPS + 1, bytes)])
+        }
+        Clauses => {
+            fits(
+                size > 0 && size.is_multiple_of(2),
+                "2 for the head and 2 for each body fact were expected",
+            )?;
+            Ok(vec![List::new("head", 1, &bytes[..2]), List::new("body", 16, &bytes[2..])])
+        }
+        Rules => counted_lists(&["P", "N", "A"], bytes),
+        Goals => counted_lists(&["P", "N"], bytes),
+    }
+}
+
+/// Lists that each stand behind their count, and fill the record.
+fn counted_lists(words: &[&'static str], bytes: &[u8]) -> Result<Vec<List>, String> {
+    let mut rest = bytes;
+    let mut out = Vec::new();
+    for word in words {
+        let Some((count, after)) = rest.split_at_checked(2) else {
+            return Err(format!(
+                "it ends where the 2 bytes of the count of its {word} were expected"
+            ));
+        };
+        let count = number(count);
+        let Some((facts, after)) = after.split_at_checked(2 * count) else {
+            let (facts, left) = (counted(count, "fact"), counted(after.len(), "byte"));
+            return Err(format!("the count of its {word} says {facts}, it has {left} more"));
+        };
+        out.push(List::new(word, 32, facts));
+        rest = after;
+    }
+    match rest.len() {
+        0 => Ok(out),
+        left => Err(format!("its lists end {} before it does", counted(left, "byte"))),
+    }
+}
+
+/// A stretch of a file behind its length: a section or a record. `at` is the length's place.
+pub struct Piece<'a> {
+    pub at: usize,
+    /// What the length says; none where it isn't whole itself.
+    pub claimed: Option<usize>,
+    pub start: usize,
+    /// As far as there are bytes.
+    pub bytes: &'a [u8],
+}
+
+impl Piece<'_> {
+    pub fn is_whole(&self) -> bool {
+        self.claimed == Some(self.bytes.len())
+    }
+
+    pub fn end(&self) -> usize {
+        self.start + self.bytes.len()
+    }
+}
+
+/// The piece whose length of `wide` bytes stands at a place of these bytes, which start at `base` in their file.
+fn piece(bytes: &[u8], base: usize, at: usize, wide: usize) -> Piece<'_> {
+    // An empty file ends before its first section.
+    let rest = bytes.get(at..).unwrap_or_default();
+    let (claimed, inside) = match rest.split_at_checked(wide) {
+        Some((length, after)) => (Some(number(length)), after),
+        None => (None, &rest[rest.len()..]),
+    };
+    let size = claimed.unwrap_or(0).min(inside.len());
+    let start = base + bytes.len() - inside.len();
+    Piece { at: base + at, claimed, start, bytes: &inside[..size] }
+}
+
+/// The sections up to the first that isn't whole, that one included.
+pub fn sections<'a>(file: &'a [u8], roles: &[Role]) -> Vec<(Role, Piece<'a>)> {
+    let mut out: Vec<(Role, Piece)> = Vec::new();
+    for role in roles {
+        let at = out.last().map_or(1, |(_, before)| before.end());
+        let next = piece(file, 0, at, 4);
+        let is_whole = next.is_whole();
+        out.push((*role, next));
+        if !is_whole {
+            break;
+        }
+    }
+    out
+}
+
+/// The records of a section up to the first that isn't whole, that one included.
+pub fn records<'a>(section: &Piece<'a>) -> Vec<Piece<'a>> {
+    let mut out: Vec<Piece> = Vec::new();
+    let mut at = 0;
+    while at < section.bytes.len() && out.last().is_none_or(Piece::is_whole) {
+        let next = piece(section.bytes, section.start, at, 2);
+        at = next.end() - section.start;
+        out.push(next);
+    }
+    out
+}
+
+/// A model as lists, as far as it can be followed: the whole of one that the library has judged to be well-formed.
+#[derive(Default)]
+pub struct Model {
+    pub facts: usize,
+    pub initial: Vec<usize>,
+    pub clauses: Vec<Vec<List>>,
+    pub rules: Vec<Vec<List>>,
+    pub goals: Vec<Vec<List>>,
+}
+
+impl Model {
+    pub fn read(file: &[u8]) -> Model {
+        let mut model = Model::default();
+        for (role, section) in sections(file, MODEL) {
+            let cut =
+                || records(&section).iter().map_while(|r| lists(role, r.bytes).ok()).collect();
+            match role {
+                Sizes => model.facts = numbers(role, &section).first().copied().unwrap_or(0),
+                Initial => model.initial = numbers(role, &section),
+                Clauses => model.clauses = cut(),
+                Rules => model.rules = cut(),
+                Goals => model.goals = cut(),
+                Trace => {}
+            }
+        }
+        model
+    }
+}
+
+/// The numbers of a bare section.
+fn numbers(role: Role, section: &Piece) -> Vec<usize> {
+    lists(role, section.bytes).map_or(Vec::new(), |mut all| all.remove(0).numbers)
+}
+
+/// The goal and the steps that a trace names.
+pub fn trace_names(file: &[u8]) -> Vec<usize> {
+    sections(file, TRACE).first().map_or(Vec::new(), |(role, section)| numbers(*role, section))
+}
+
+/// A trace file.
+pub fn trace(goal: usize, steps: &[usize]) -> Vec<u8> {
+    let mut out = vec![1];
+    out.extend((2 + 2 * steps.len() as u32).to_be_bytes());
+    for name in [&[goal], steps].concat() {
+        out.extend((name as u16).to_be_bytes());
+    }
+    out
+}
+
+#[cfg(test)]
+mod tests {
+    use super::*;
+
+    fn numbers(cut: &[Vec<List>]) -> Vec<Vec<Vec<usize>>> {
+        let of_record =
+            |record: &Vec<List>| record.iter().map(|list| list.numbers.clone()).collect();
+        cut.iter().map(of_record).collect()
+    }
+
+    fn wide(list: &[u16]) -> Vec<usize> {
+        list.iter().map(|number| *number as usize).collect()
+    }
+
+    /// A sound model is read as the independent second program reads it.
+    #[test]
+    fn a_model_is_what_the_second_program_reads() {
+        for index in 0..5_000 {
+            let file = second::gen::sound(7, index).model;
+            let ours = Model::read(&file);
+            let theirs = second::parse_model(&file).expect("a sound model");
+            let clause = |c: &second::Clause| vec![vec![c.head as usize], wide(&c.body)];
+            let rule = |r: &second::Rule| [&r.pos, &r.neg, &r.add].map(|list| wide(list)).to_vec();
+            let goal = |a: &second::Attack| [&a.pos, &a.neg].map(|list| wide(list)).to_vec();
+            assert_eq!(ours.facts, theirs.facts as usize, "pair {index}");
+            assert_eq!(ours.initial, wide(&theirs.initial), "pair {index}");
+            assert_eq!(numbers(&ours.clauses), Vec::from_iter(theirs.clauses.iter().map(clause)));
+            assert_eq!(numbers(&ours.rules), Vec::from_iter(theirs.rules.iter().map(rule)));
+            assert_eq!(numbers(&ours.goals), Vec::from_iter(theirs.attacks.iter().map(goal)));
+        }
+    }
+}

@@ -1,0 +1,106 @@
+//! Names beside numbers. `NAME.names` beside `NAME.model` has lines `fact 5 edits(ben)`, `rule 0 sign`,
+//! `goal 0 ..`; empty lines and lines that start with # are passed over. A file that doesn't fit its model is
+//! told and not used.
+
+use crate::failure::Failure;
+use crate::files::read_plain;
+use crate::judge;
+use crate::layout::Model;
+use crate::output::{is_plain, quoted, tell};
+use std::collections::HashMap;
+use std::ffi::OsStr;
+use std::path::Path;
+
+const KINDS: [&str; 3] = ["fact", "rule", "goal"];
+
+/// The most bytes of a names file.
+const BYTES: usize = 1 << 20;
+
+#[derive(Default)]
+pub struct Names([HashMap<usize, String>; 3]);
+
+impl Names {
+    /// The names of a model; none where there is no names file, or where the model can't be followed.
+    pub fn beside(model_name: &OsStr, model: &[u8]) -> Result<Names, Failure> {
+        let path = Path::new(model_name);
+        let file = path.with_extension("names");
+        let is_there =
+            path.extension() == Some("model".as_ref()) && file.symlink_metadata().is_ok();
+        if !is_there || !judge::is_model(model) {
+            return Ok(Names::default());
+        }
+        let bytes = read_plain(file.as_os_str(), BYTES).map_err(|failure| failure.message);
+        bytes.and_then(|bytes| parse(&bytes, &Model::read(model))).or_else(|reason| {
+            let shown = quoted(file.as_os_str());
+            tell(&format!("the names in {shown} are not used: {reason}"))?;
+            Ok(Names::default())
+        })
+    }
+
+    pub fn fact(&self, number: usize) -> String {
+        self.beside_number(0, number)
+    }
+
+    pub fn rule(&self, number: usize) -> String {
+        self.beside_number(1, number)
+    }
+
+    pub fn goal(&self, number: usize) -> String {
+        self.beside_number(2, number)
+    }
+
+    /// Without any, a list of all facts would say nothing.
+    pub fn has_facts(&self) -> bool {
+        !self.0[0].is_empty()
+    }
+
+    fn beside_number(&self, kind: usize, number: usize) -> String {
+        match self.0[kind].get(&number) {
+            Some(name) => format!("{number} {name}"),
+            None => number.to_string(),
+        }
+    }
+}
+
+fn parse(bytes: &[u8], model: &Model) -> Result<Names, String> {
+    if bytes.len() > BYTES {
+        return Err(format!("the file has over {BYTES} bytes"));
+    }
+    let text = std::str::from_utf8(bytes)
+        .map_err(|error| format!("byte {} is not text", error.valid_up_to()))?;
+    let mut names = Names::default();
+    for (index, line) in text.lines().enumerate() {
+        if !line.is_empty() && !line.starts_with('#') {
+            add(&mut names, line, model)
+                .map_err(|reason| format!("line {}: {reason}", index + 1))?;
+        }
+    }
+    Ok(names)
+}
+
+fn add(names: &mut Names, line: &str, model: &Model) -> Result<(), String> {
+    let most = [model.facts, model.rules.len(), model.goals.len()];
+    let (kind, number, name) =
+        split(line).ok_or("expected fact, rule or goal, a number and a name")?;
+    let word = KINDS[kind];
+    if !line.chars().all(is_plain) {
+        return Err("it has a character that isn't plain text".to_string());
+    }
+    if number >= most[kind] {
+        return Err(format!("the model has no {word} {number}"));
+    }
+    match names.0[kind].insert(number, name.to_string()) {
+        Some(before) => Err(format!("{word} {number} has a name already, {before}")),
+        None => Ok(()),
+    }
+}
+
+/// A line's kind, number and name.
+fn split(line: &str) -> Option<(usize, usize, &str)> {
+    let mut words = line.splitn(3, ' ');
+    let word = words.next()?;
+    let kind = KINDS.iter().position(|kind| *kind == word)?;
+    let digits = words.next().filter(|digits| digits.bytes().all(|byte| byte.is_ascii_digit()))?;
+    let name = words.next()?.trim();
+    (!name.is_empty()).then_some((kind, digits.parse().ok()?, name))
+}

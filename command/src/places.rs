@@ -1,0 +1,251 @@
+//! A refusal in plain words: which file, which bytes, in which section or record, and what was expected there.
+//! The number and the bytes are the library's; the words follow the file to them.
+
+use crate::files::{Pair, MODEL_BYTES, TRACE_BYTES};
+use crate::judge;
+use crate::layout::{self, lists, records, sections, Kind, List, Model, Piece, Role};
+use crate::names::Names;
+use crate::output::{counted, quoted};
+use library::Verdict;
+use std::ffi::OsStr;
+
+/// More bytes than these are not written out.
+const BYTES_SHOWN: usize = 16;
+
+/// Said where this reader and the library don't see the same; no test has found such a file.
+const UNPLACED: &str = "which this command can't place: tell its authors";
+
+/// The refusal of a pair.
+pub fn refusal(verdict: &Verdict, pair: &Pair, names: &Names) -> String {
+    let place = Place { verdict, pair, model: Model::read(&pair.model), names };
+    let found = place.words().unwrap_or_else(|| UNPLACED.to_string());
+    let (word, name, file) = place.file();
+    let span = span(file, verdict.start, verdict.size);
+    let (verdict, name, hint) = (judge::name(verdict), quoted(name), mistaken(pair));
+    format!("{verdict}: the {word} {name}, {span}, {found}{hint}")
+}
+
+/// A file that was named in the other's place. A model that is cut off may look like a trace.
+fn mistaken(pair: &Pair) -> &'static str {
+    if judge::is_trace(&pair.model) && !judge::is_trace(&pair.trace) {
+        " (it was given a trace for the model: are the two files swapped?)"
+    } else if judge::is_model(&pair.trace) {
+        " (it was given a model for the trace)"
+    } else {
+        ""
+    }
+}
+
+/// The bytes at fault with their place, from 0.
+fn span(file: &[u8], start: usize, size: usize) -> String {
+    let bytes: Vec<String> =
+        file.iter().skip(start).take(size).map(|b| format!("{b:02x}")).collect();
+    let shown = match bytes.len() {
+        0..=BYTES_SHOWN => bytes.join(" "),
+        _ => format!("{} ..", bytes[..BYTES_SHOWN].join(" ")),
+    };
+    match size {
+        0 => format!("before byte {start}"),
+        1 => format!("byte {start} ({shown})"),
+        _ => format!("bytes {start} to {} ({shown})", start + size - 1),
+    }
+}
+
+struct Place<'a> {
+    verdict: &'a Verdict,
+    pair: &'a Pair,
+    model: Model,
+    names: &'a Names,
+}
+
+impl Place<'_> {
+    /// The file at fault: what it is, its name and its bytes.
+    fn file(&self) -> (&'static str, &OsStr, &[u8]) {
+        match self.verdict.mark {
+            0 => ("model", &self.pair.model_name, &self.pair.model),
+            _ => ("trace", &self.pair.trace_name, &self.pair.trace),
+        }
+    }
+
+    /// Where the bytes lie and what was expected; none where this reader and the library don't see the same.
+    fn words(&self) -> Option<String> {
+        let (word, _, file) = self.file();
+        let most = if self.verdict.mark == 0 { MODEL_BYTES } else { TRACE_BYTES };
+        match self.verdict.number {
+            2 => Some(format!("the whole file: a {word} has at most {most} bytes")),
+            3 if file.is_empty() => {
+                Some(format!("the file is empty: a {word} starts with the version, 1"))
+            }
+            3 => Some(format!("the version: a {word} starts with 01")),
+            9 => self.lacking(),
+            _ => self.in_section(),
+        }
+    }
+
+    /// NAME: a goal or a rule that the model lacks.
+    fn lacking(&self) -> Option<String> {
+        let index = self.verdict.start.checked_sub(5)? / 2;
+        let number = *layout::trace_names(&self.pair.trace).get(index)?;
+        let (place, word, count) = match index {
+            0 => ("the goal".to_string(), "goal", self.model.goals.len()),
+            _ => (format!("step {}", index - 1), "rule", self.model.rules.len()),
+        };
+        Some(format!(
+            "{place}: it names {word} {number}, and the model has {}",
+            numbered(word, count)
+        ))
+    }
+
+    /// 4 to 8: the section first.
+    fn in_section(&self) -> Option<String> {
+        let (_, _, file) = self.file();
+        let roles = if self.verdict.mark == 0 { layout::MODEL } else { layout::TRACE };
+        let all = sections(file, roles);
+        let start = self.verdict.start;
+        let at_fault = all.iter().find(|(role, s)| !s.is_whole() || self.is_in(*role, s));
+        let Some((role, section)) = at_fault else {
+            let end = all.last()?.1.end();
+            let left = format!("after the last section, which ends at byte {end}");
+            return (start == end).then(|| format!("{left}: nothing was expected"));
+        };
+        let word = role.section();
+        if !section.is_whole() {
+            let found = short(section, file.len(), 4, "the file");
+            return (start == section.at).then(|| format!("section {word}: {found}"));
+        }
+        Some(match role.kind() {
+            Some(kind) => format!("section {word}, {}", self.in_record(*role, &kind, section)?),
+            None => format!("section {word}: {}", self.in_lists(*role, section.bytes)?),
+        })
+    }
+
+    /// Whether a section has the bytes at fault: in one of its records, or it is they.
+    fn is_in(&self, role: Role, section: &Piece) -> bool {
+        let (start, size) = (self.verdict.start, self.verdict.size);
+        match role.kind() {
+            Some(_) => section.start <= start && start < section.end(),
+            // An empty list of facts is fine; empty sizes and an empty trace are not.
+            None if size == 0 && role == Role::Initial => false,
+            None => (start, size) == (section.start, section.bytes.len()),
+        }
+    }
+
+    /// Then the record.
+    fn in_record(&self, role: Role, kind: &Kind, section: &Piece) -> Option<String> {
+        let cut = records(section);
+        let number = cut.iter().position(|record| record.at == self.verdict.start)?;
+        let record = &cut[number];
+        let shown = match role {
+            Role::Rules => self.names.rule(number),
+            Role::Goals => self.names.goal(number),
+            _ => number.to_string(),
+        };
+        let found = if !record.is_whole() {
+            short(record, section.end(), 2, "its section")
+        } else if self.verdict.number == 5 && number >= kind.most {
+            format!("a model has at most {} of them", kind.most)
+        } else {
+            self.in_lists(role, record.bytes)?
+        };
+        Some(format!("{} {shown}: {found}", kind.word))
+    }
+
+    /// Then the list and the number in it.
+    fn in_lists(&self, role: Role, bytes: &[u8]) -> Option<String> {
+        let cut = match lists(role, bytes) {
+            Err(found) => return (self.verdict.number == 4).then_some(found),
+            Ok(cut) => cut,
+        };
+        match self.verdict.number {
+            5 => cut.iter().find_map(|list| too_many(role, list)),
+            6 => cut.iter().find_map(|list| {
+                let fact = list.numbers.iter().find(|fact| **fact >= self.model.facts)?;
+                let known = numbered("fact", self.model.facts);
+                Some(format!("fact {fact} stands in its {}, and the model has {known}", list.word))
+            }),
+            7 => cut.iter().find_map(|list| {
+                let two = list.numbers.windows(2).find(|two| two[0] >= two[1])?;
+                Some(format!(
+                    "in its {} fact {} stands before fact {}: facts ascend",
+                    list.word, two[0], two[1]
+                ))
+            }),
+            8 => self.negated(&cut),
+            _ => None,
+        }
+    }
+
+    /// NEGATED: the first fact of N that some clause derives.
+    fn negated(&self, cut: &[List]) -> Option<String> {
+        let n = cut.iter().find(|list| list.word == "N")?;
+        n.numbers.iter().find_map(|fact| {
+            let clause = self.model.clauses.iter().position(|c| c[0].numbers[0] == *fact)?;
+            let (fact, why) = (self.names.fact(*fact), "no N may have a fact that is derived");
+            Some(format!("fact {fact} stands in its N and is the head of clause {clause}: {why}"))
+        })
+    }
+}
+
+/// A length that isn't whole or says more than there is up to `end`.
+fn short(piece: &Piece, end: usize, wide: usize, around: &str) -> String {
+    match piece.claimed {
+        None => {
+            let left = counted(end - piece.at, "byte");
+            format!("its length of {wide} bytes was expected, {around} has {left} more")
+        }
+        Some(claimed) => {
+            let (claimed, left) = (counted(claimed, "byte"), counted(piece.bytes.len(), "byte"));
+            format!("its length says {claimed}, {around} has {left} more")
+        }
+    }
+}
+
+/// COUNT in a record or a bare section.
+fn too_many(role: Role, list: &List) -> Option<String> {
+    let count = list.numbers.len();
+    match role {
+        Role::Sizes => {
+            Some(format!("F is {}, and at most {} is allowed", list.numbers[0], layout::FACTS))
+        }
+        Role::Trace => {
+            Some(format!("it has {} steps, and at most {} are allowed", count - 1, layout::STEPS))
+        }
+        _ if count > list.most => Some(format!(
+            "its {} has {count} facts, and at most {} are allowed",
+            list.word, list.most
+        )),
+        _ => None,
+    }
+}
+
+/// "no rule", "rule 0 only", "rules 0 to 4".
+fn numbered(word: &str, count: usize) -> String {
+    match count {
+        0 => format!("no {word}"),
+        1 => format!("{word} 0 only"),
+        _ => format!("{word}s 0 to {}", count - 1),
+    }
+}
+
+#[cfg(test)]
+mod tests {
+    use super::*;
+
+    /// Every refusal of many damaged pairs is placed, and each number occurs.
+    #[test]
+    fn every_refusal_has_its_words() {
+        let mut seen = [0; 12];
+        for index in 0..10_000 {
+            let second::gen::Pair { model, trace, .. } = second::gen::damaged(5, index);
+            let verdict = judge::check(&model, &trace).verdict;
+            seen[verdict.number as usize] += 1;
+            let [model_name, trace_name] = ["m", "t"].map(Into::into);
+            let pair = Pair { model_name, trace_name, model, trace };
+            if judge::is_refusal(&verdict) {
+                let words = refusal(&verdict, &pair, &Names::default());
+                assert!(!words.contains(UNPLACED), "pair {index}: {words}");
+            }
+        }
+        assert!(seen[2..=9].iter().all(|count| *count > 10), "too few of some number: {seen:?}");
+    }
+}

@@ -1,0 +1,81 @@
+//! `show MODEL`: the model as text that a person can read.
+
+use crate::args::Args;
+use crate::failure::{unanswered, Failure};
+use crate::files::Pair;
+use crate::judge;
+use crate::layout::{List, Model};
+use crate::names::Names;
+use crate::output::{listed, Output};
+use crate::places::refusal;
+use crate::{operands, Command};
+
+pub const COMMAND: Command = Command {
+    name: "show",
+    usage: "show MODEL",
+    brief: "a model as text",
+    help: "\
+Its facts, clauses, rules and attack states, with names where NAME.names lies
+beside NAME.model. A rule or goal `needs` its P and is stopped by its N, `not`;
+a rule takes away its P and then `adds` its A. A model that is refused is not
+shown: standard error says why, and the exit is 1.
+
+Example:
+  cantivorex show samples/desk.model",
+    known: &[],
+    run,
+};
+
+fn run(args: &Args) -> Result<u8, Failure> {
+    let [name] = operands(args, &COMMAND)?;
+    let pair = Pair::of_model(name)?;
+    let names = Names::beside(name, &pair.model)?;
+    let verdict = judge::check(&pair.model, &pair.trace).verdict;
+    if judge::is_refusal(&verdict) && verdict.mark == 0 {
+        return Err(unanswered(refusal(&verdict, &pair, &names)));
+    }
+    let model = Model::read(&pair.model);
+    let mut output = Output::open()?;
+    text(&model, &names).iter().try_for_each(|line| output.line(line))?;
+    output.flush()?;
+    Ok(0)
+}
+
+fn text(model: &Model, names: &Names) -> Vec<String> {
+    let all = |facts: &[usize]| listed(facts.iter().map(|fact| names.fact(*fact)), usize::MAX);
+    let mut out = vec![format!("facts: {}", model.facts)];
+    if names.has_facts() {
+        out.extend((0..model.facts).map(|fact| format!("  {}", names.fact(fact))));
+    }
+    out.push(format!("initial facts: {}", all(&model.initial)));
+    out.push(format!("clauses: {}", model.clauses.len()));
+    for (number, clause) in model.clauses.iter().enumerate() {
+        let [head, body] = [0, 1].map(|i| all(&clause[i].numbers));
+        out.push(format!(
+            "  clause {number}: {head} from {}",
+            if clause[1].numbers.is_empty() { "nothing" } else { &body }
+        ));
+    }
+    out.push(format!("rules: {}", model.rules.len()));
+    for (number, rule) in model.rules.iter().enumerate() {
+        out.push(format!("  rule {}: {}", names.rule(number), conditions(rule, all)));
+    }
+    out.push(format!("attack states: {}", model.goals.len()));
+    for (number, goal) in model.goals.iter().enumerate() {
+        out.push(format!("  goal {}: {}", names.goal(number), conditions(goal, all)));
+    }
+    out
+}
+
+/// The lists of a rule or an attack state that have facts.
+fn conditions(lists: &[List], all: impl Fn(&[usize]) -> String) -> String {
+    let words = ["needs", "not", "adds"];
+    let full = words.iter().zip(lists).filter(|(_, list)| !list.numbers.is_empty());
+    let parts: Vec<String> =
+        full.map(|(word, list)| format!("{word} {}", all(&list.numbers))).collect();
+    if parts.is_empty() {
+        "no conditions".to_string()
+    } else {
+        parts.join("; ")
+    }
+}

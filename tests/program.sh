@@ -1,0 +1,180 @@
+#!/usr/bin/env bash
+# Tests document 01's program, target/bin/cantivorex, as it is run: on case.model and case.trace of its folder. The
+# expected lines are document 01's, written here by hand. Ends in 'N passed, M failed', and exits non-zero unless all
+# passed.
+set -u
+. "$(dirname "${BASH_SOURCE[0]}")/checks.sh"
+program=$root/target/bin/cantivorex
+
+# ask: runs the program in the folder $tmp/case; what it printed is in out, its messages in err.
+ask() {
+    out=$(cd "$tmp/case" && "$program" 2>"$tmp/err"; printf .)
+    out=${out%.}
+    err=$(<"$tmp/err")
+}
+
+new_case() {
+    rm -rf "$tmp/case"
+    mkdir "$tmp/case"
+}
+
+# line_of MODEL TRACE: what the program prints for a pair.
+line_of() {
+    new_case
+    cp "$1" "$tmp/case/case.model"
+    cp "$2" "$tmp/case/case.trace"
+    ask
+    printf '%s' "$out"
+}
+
+test_samples() {
+    same 'the desk model has 101 bytes' 101 "$(wc -c <"$desk" | tr -d ' ')"
+    same 'trace B is as in document 01' 0100000006000000010000 "$(od -An -v -tx1 "$root/samples/B.trace" | tr -d ' \n')"
+    local name line
+    while IFS='|' read -r name line; do
+        same "case $name" "$line" "$(line_of "$desk" "$root/samples/$name.trace")"
+    done <<<"$desk_lines"
+}
+
+# small NAME MODEL LINE: a model without rules, and a trace that asks for attack state 0 without steps.
+small() {
+    bytes "$2" >"$tmp/small.model"
+    bytes 01 00000002 0000 >"$tmp/small.trace"
+    same "case $1" "$3" "$(line_of "$tmp/small.model" "$tmp/small.trace")"
+}
+
+# Each model: version; F; initial facts; clauses; rules; attack states.
+test_small_models() {
+    small H '01 00000002 0000  00000000  00000000  00000000  00000006 0004 0000 0000' \
+        'ATTACK step 0 fact none rounds 0 held 0'
+    small I '01 00000002 0001  00000000  00000004 0002 0000  00000000  00000008 0006 0001 0000 0000' \
+        'ATTACK step 0 fact none rounds 1 held 0'
+    small J '01 00000002 0001  00000000  00000006 0004 0000 0000  00000000  00000008 0006 0001 0000 0000' \
+        'NOATTACK step 0 fact 0 rounds 0 held 0'
+    small K '01 00000002 0002  00000000  0000000C 0004 0000 0001 0004 0001 0000  00000000
+        00000008 0006 0001 0000 0000' 'NOATTACK step 0 fact 0 rounds 0 held 0'
+    small L '01 00000002 0004  00000002 0000  00000012 0004 0003 0002 0004 0002 0001 0004 0001 0000  00000000
+        00000008 0006 0001 0003 0000' 'ATTACK step 0 fact none rounds 3 held 1'
+    small 'L reversed' '01 00000002 0004  00000002 0000  00000012 0004 0001 0000 0004 0002 0001 0004 0003 0002
+        00000000  00000008 0006 0001 0003 0000' 'ATTACK step 0 fact none rounds 3 held 1'
+}
+
+test_missing_files() {
+    local line
+    line=$(refused VERSION)$'\n'
+    new_case
+    ask
+    same 'both files missing' "$line" "$out"
+    cp "$desk" "$tmp/case/case.model"
+    ask
+    same 'the trace missing' "$line" "$out"
+    new_case
+    cp "$root/samples/A.trace" "$tmp/case/case.trace"
+    ask
+    same 'the model missing' "$line" "$out"
+    same 'a missing file is no failure' '' "$err"
+    cp "$desk" "$tmp/case/case.model"
+    ask
+    same 'the whole output has one line end' $'ATTACK step 1 fact none rounds 4 held 4\n' "$out"
+}
+
+# no_line LABEL FILE REASON: the program prints no line, and names the file and the reason.
+no_line() {
+    ask
+    same "$1: no line" '' "$out"
+    has "$1: the reason" "$2: $3" "$err"
+}
+
+# A file that can't be opened or read must not pass for a shorter one.
+test_unread_files() {
+    local file
+    for file in case.model case.trace; do
+        new_case
+        cp "$desk" "$tmp/case/case.model"
+        cp "$root/samples/A.trace" "$tmp/case/case.trace"
+        rm "$tmp/case/$file"
+        mkdir "$tmp/case/$file"
+        no_line "a folder named $file" "$file" 'Is a directory'
+        rmdir "$tmp/case/$file"
+        ln -s "$file" "$tmp/case/$file"
+        no_line "a link $file to itself" "$file" 'Too many levels of symbolic links'
+        ln -sfn /proc/self/mem "$tmp/case/$file"
+        no_line "a $file whose read fails" "$file" 'Input/output error'
+    done
+}
+
+# oddly SETTING..: what the program says under the odd calls.
+oddly() {
+    (cd "$tmp/case" && env "$@" LD_PRELOAD="$tmp/odd.so" "$program" 2>&1)
+}
+
+# A read of the system's that moves few bytes at a time, and a read or a write that fails midway: the line is the
+# same, or it is told.
+test_odd_calls() {
+    cat >"$tmp/odd.c" <<'CODE'
+#include <errno.h>
+#include <stdlib.h>
+#include <sys/syscall.h>
+#include <unistd.h>
+
+/* Whether this is the call whose number the variable gives. */
+static int fails(const char *variable, int call) {
+    if (!getenv(variable) || call != atoi(getenv(variable)))
+        return 0;
+    errno = EIO;
+    return 1;
+}
+
+ssize_t read(int fd, void *to, size_t most) {
+    static int calls;
+    return fails("FAIL_READ", ++calls) ? -1 : syscall(SYS_read, fd, to, most < 7 ? most : 7);
+}
+
+ssize_t write(int fd, const void *from, size_t size) {
+    static int calls;
+    return fd == 1 && fails("FAIL_WRITE", ++calls) ? -1 : syscall(SYS_write, fd, from, size);
+}
+CODE
+    gcc -shared -fPIC -o "$tmp/odd.so" "$tmp/odd.c" || { same 'the odd calls are compiled' yes no; return; }
+    new_case
+    cp "$desk" "$tmp/case/case.model"
+    cp "$root/samples/B.trace" "$tmp/case/case.trace"
+    same 'seven bytes at a time' 'BLOCKED step 1 fact 5 rounds 2 held 2' "$(oddly)"
+    # 101 bytes take 15 reads and one for the end; the trace's first is the 17th
+    same 'the model fails midway' 'case.model: Input/output error' "$(oddly FAIL_READ=5)"
+    same 'the model fails at its end' 'case.model: Input/output error' "$(oddly FAIL_READ=16)"
+    same 'the trace fails midway' 'case.trace: Input/output error' "$(oddly FAIL_READ=18)"
+    # the name, " step " and 1 are written; the fourth write is " fact "
+    same 'the line fails midway' "BLOCKED step 1the verdict's line: Input/output error" "$(oddly FAIL_WRITE=4)"
+    has 'the line has no end' "held 2the verdict's line: Input/output error" "$(oddly FAIL_WRITE=10)"
+}
+
+# sized LABEL NAME FILE ZEROS: the verdict's name with so many zeros behind a file of the case.
+sized() {
+    cp "$desk" "$tmp/case/case.model"
+    cp "$root/samples/A.trace" "$tmp/case/case.trace"
+    zeros "$4" >>"$tmp/case/$3"
+    ask
+    same "$1" "$(refused "$2")"$'\n' "$out"
+}
+
+# Zeros after the last section: not too long up to the bound, where the bytes left over are the fault.
+test_sizes() {
+    new_case
+    sized 'a model of 65,536 bytes' SHAPE case.model $((65536 - 101))
+    sized 'a model of 65,537 bytes' LONG case.model $((65537 - 101))
+    sized 'a model of a million bytes' LONG case.model 1000000
+    sized 'a trace of 4,096 bytes' SHAPE case.trace $((4096 - 9))
+    sized 'a trace of 4,097 bytes' LONG case.trace $((4097 - 9))
+    : >"$tmp/case/case.model"
+    ask
+    same 'a trace too long comes before an empty model' "$(refused LONG)"$'\n' "$out"
+}
+
+test_samples
+test_small_models
+test_missing_files
+test_unread_files
+test_odd_calls
+test_sizes
+summary

@@ -32,7 +32,8 @@ const KINDS: &[Kind] = &[
     fact_beyond,
     disorder,
     bad_last_record,
-    negated,
+    last_head,
+    in_the_way,
     missing_name,
     whole_model,
     whole_trace,
@@ -331,6 +332,10 @@ fn top_fact(mut b: Board) -> Files {
 /// All facts stored, or nearly all; what decides is one that isn't, or the last that is.
 fn many_stored(mut b: Board) -> Files {
     let all = b.each(2) == 1;
+    if all {
+        // As many as there can be.
+        b = Board::new(b.rng, b.turn, 4_096);
+    }
     let missing = b.one();
     let fewer = if all { 0 } else { b.rng.of(&[0, 0, 1, 1_000]) };
     let stored = b.take(b.free.len() - fewer);
@@ -519,14 +524,40 @@ fn bad_last_record(mut b: Board) -> Files {
 }
 
 /// The last clause's head is the last fact of a full N, in the last record of its section.
-fn negated(mut b: Board) -> Files {
+fn last_head(mut b: Board) -> Files {
     let place = [Place::N, Place::GoalN][b.each(2)];
+    let is_given = b.each(3) < 2;
     let list = b.take(32);
+    let from = b.one();
+    b.model.initial.extend(is_given.then_some(from));
     nearly_full(&mut b);
-    b.clause(list[31], &[list[0]]);
-    b.put(Place::GoalN, &list[..31]);
-    b.model.attacks.swap_remove(0);
+    b.clause(list[31], &[from]);
     b.put(place, &list);
+    b.files()
+}
+
+/// A fact of a chain in an N: the stored one, the first derived, a later one, the last.
+fn in_the_way(mut b: Board) -> Files {
+    // Both from the same turn, so that neither has to wait for the other.
+    let (at, way) = (b.turn % 4, b.turn % 5);
+    let length = 300 + b.rng.below(100);
+    let links = b.loose(length);
+    b.chain(&links);
+    let fact = links[[0, 1, 257 + b.rng.below(40), length - 1][at]];
+    let rule = |pos: &[u16], add: &[u16]| Rule { pos: pos.into(), neg: vec![], add: add.into() };
+    let denied = |rule: Rule| Rule { neg: vec![fact], ..rule };
+    match way {
+        0 => b.put(Place::N, &[fact]),
+        1 => b.put(Place::GoalN, &[fact]),
+        2 => b.step(denied(rule(&[fact], &[]))),
+        // The rule itself would take away what the chain starts with.
+        3 => b.step(denied(rule(&links[..1], &[]))),
+        // The chain gets shorter by a step, and the rounds smaller.
+        _ => {
+            b.step(rule(&[], &links[3..4]));
+            b.step(denied(rule(&[], &[])));
+        }
+    }
     b.files()
 }
 

@@ -190,9 +190,7 @@ fn sound_lists(rng: &mut Rng) -> (Model, Vec<u16>) {
     let count = rng.below(6);
     model.initial = pick(rng, count, size.facts, |_| true);
     model.clauses = some_clauses(rng, &size, &model.initial);
-    let mut heads = vec![false; size.facts];
-    model.clauses.iter().for_each(|c| heads[c.head as usize] = true);
-    let mut story = Story { rng, size, model, heads, known: Vec::new() };
+    let mut story = Story { rng, size, model, known: Vec::new() };
     let mut names = story.steps();
     names.insert(0, story.attacks());
     (story.model, names)
@@ -274,7 +272,6 @@ struct Story<'a> {
     rng: &'a mut Rng,
     size: Size,
     model: Model,
-    heads: Vec<bool>,
     known: Vec<bool>,
 }
 
@@ -330,19 +327,46 @@ impl Story<'_> {
         self.rng.below(count)
     }
 
-    /// With `fit` the conditions hold in the latest closure; without, P or N may fail.
     fn rule(&mut self, fit: bool) -> Rule {
-        let (fit_pos, fit_neg) = (fit || self.rng.one_in(3), fit || self.rng.one_in(3));
-        let mut count = || if self.rng.one_in(60) { 32 } else { self.rng.below(4) };
-        let (p, n, a, facts) = (count(), count(), count(), self.size.facts);
-        let pos = pick(self.rng, p, facts, |f| !fit_pos || self.known[f]);
-        let neg = pick(self.rng, n, facts, |f| !(self.heads[f] || fit_neg && self.known[f]));
-        let mut add = pick(self.rng, a, facts, |_| true);
+        let (pos, neg) = self.conditions(fit);
+        let count = self.list_size();
+        let mut add = pick(self.rng, count, self.size.facts, |_| true);
         // Often P is written back, as for facts that aren't used up.
         if self.rng.one_in(2) && add.len() + pos.len() <= 32 {
             add.extend(&pos);
         }
         Rule { pos, neg, add: sorted(add) }
+    }
+
+    fn list_size(&mut self) -> usize {
+        if self.rng.one_in(60) {
+            32
+        } else {
+            self.rng.below(4)
+        }
+    }
+
+    /// P and N. With `fit` they hold in the latest closure; without, either may fail.
+    fn conditions(&mut self, fit: bool) -> (Vec<u16>, Vec<u16>) {
+        if !fit && !self.model.clauses.is_empty() && self.rng.one_in(3) {
+            return self.denial();
+        }
+        let (fit_pos, fit_neg) = (fit || self.rng.one_in(3), fit || self.rng.one_in(3));
+        let (p, n, facts) = (self.list_size(), self.list_size(), self.size.facts);
+        let pos = pick(self.rng, p, facts, |f| !fit_pos || self.known[f]);
+        let neg = pick(self.rng, n, facts, |f| !(fit_neg && self.known[f]));
+        (pos, neg)
+    }
+
+    /// N is a clause's head. P is empty, has the same fact, or takes away what gives it.
+    fn denial(&mut self) -> (Vec<u16>, Vec<u16>) {
+        let Clause { head, body } = &self.model.clauses[self.rng.below(self.model.clauses.len())];
+        let pos = match self.rng.below(3) {
+            0 => vec![],
+            1 => vec![*head],
+            _ => body.clone(),
+        };
+        (pos, vec![*head])
     }
 
     /// A few attack states, and which is the goal: one met in the last closure, or any.
@@ -351,7 +375,7 @@ impl Story<'_> {
         let goal = self.rng.below(count);
         for index in 0..count {
             let met = index == goal && self.rng.one_in(2);
-            let Rule { pos, neg, .. } = self.rule(met);
+            let (pos, neg) = self.conditions(met);
             self.model.attacks.push(Attack { pos, neg });
         }
         goal as u16
@@ -376,15 +400,14 @@ fn damage(rng: &mut Rng) -> (Vec<u8>, Vec<u8>) {
 
 fn spoil_lists(rng: &mut Rng, model: &mut Model, names: &mut Vec<u16>) {
     let over = rng.of(&[0, 1, 1, 2]);
-    match rng.below(20) {
+    match rng.below(16) {
         0..=3 => bad_fact(rng, model),
         4..=6 => disorder(rng, model),
         7..=8 => long_list(rng, model, over),
         9 => model.facts = rng.of(&[4_096, 4_097, 4_097, 65_535]) as u16,
         10 => model.facts = rng.below(model.facts as usize + 1) as u16,
         11 => many_records(rng, model, over),
-        12..=15 => negate(rng, model),
-        16 => names.resize(1 + 1_024 + over * rng.of(&[1, 1, 510]), 0),
+        12 => names.resize(1 + 1_024 + over * rng.of(&[1, 1, 510]), 0),
         _ => {
             let at = rng.below(names.len());
             let known = if at == 0 { model.attacks.len() } else { model.rules.len() };
@@ -443,22 +466,6 @@ fn many_records(rng: &mut Rng, model: &mut Model, over: usize) {
         1 => model.rules.resize(2_048 + over, Rule::default()),
         _ => model.attacks.resize(64 + over, Attack::default()),
     }
-}
-
-/// Puts some clause's head into an N, in its right place.
-fn negate(rng: &mut Rng, model: &mut Model) {
-    if model.clauses.is_empty() {
-        let head = rng.below(model.facts as usize) as u16;
-        model.clauses.push(Clause { head, body: vec![] });
-    }
-    let head = model.clauses[rng.below(model.clauses.len())].head;
-    let rules = model.rules.len();
-    let neg = match rng.below(rules + model.attacks.len()) {
-        at if at < rules => &mut model.rules[at].neg,
-        at => &mut model.attacks[at - rules].neg,
-    };
-    neg.push(head);
-    *neg = sorted(neg.clone());
 }
 
 /// A length or count in the file; `end` is where the bytes it covers end, for lengths.

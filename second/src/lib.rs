@@ -5,10 +5,12 @@ mod bounds;
 pub mod close;
 pub mod gen;
 pub mod read;
+mod tally;
 
 pub use close::{bench_close, bench_close_flat, close, close_api};
 pub use close::{clause_place, flat, Flat, Judged};
 pub use read::{parse, parse_model, Attack, Clause, Model, Parsed, Part, Rule, Trace};
+pub use tally::Tally;
 
 use std::collections::BTreeSet;
 
@@ -20,6 +22,7 @@ pub const SHAPE: u8 = 4;
 pub const COUNT: u8 = 5;
 pub const FACT: u8 = 6;
 pub const ORDER: u8 = 7;
+/// Never given: a clause's head may stand in an N.
 pub const NEGATED: u8 = 8;
 pub const NAME: u8 = 9;
 pub const BLOCKED: u8 = 10;
@@ -29,6 +32,13 @@ pub const NAMES: [&str; 12] = [
     "ATTACK", "ROOM", "LONG", "VERSION", "SHAPE", "COUNT", "FACT", "ORDER", "NEGATED", "NAME",
     "BLOCKED", "NOATTACK",
 ];
+
+/// Kinds: whether the unmet condition is one of P or one of N.
+pub const NO_KIND: u8 = 0;
+pub const POSITIVE: u8 = 1;
+pub const NEGATIVE: u8 = 2;
+
+pub const KINDS: [&str; 3] = ["none", "positive", "negative"];
 
 /// Marks: which of the two files holds the bytes at fault.
 pub const MODEL: u8 = 0;
@@ -57,6 +67,8 @@ pub struct Verdict {
     pub fact: u16,
     pub rounds: usize,
     pub held: usize,
+    pub kind: u8,
+    pub round: u16,
     pub mark: u8,
     pub start: usize,
     pub len: usize,
@@ -98,9 +110,13 @@ pub fn fault_part<'a>(
 
 /// The program's one line, without the newline.
 pub fn line(v: &Verdict) -> String {
-    let fact = if v.fact == NONE { "none".to_string() } else { v.fact.to_string() };
-    let name = NAMES[v.number as usize];
-    format!("{name} step {} fact {fact} rounds {} held {}", v.step, v.rounds, v.held)
+    let Verdict { step, rounds, held, .. } = v;
+    let [fact, round] = [v.fact, v.round].map(|n| match n {
+        NONE => "none".to_string(),
+        _ => n.to_string(),
+    });
+    let (name, kind) = (NAMES[v.number as usize], KINDS[v.kind as usize]);
+    format!("{name} step {step} fact {fact} rounds {rounds} held {held} kind {kind} round {round}")
 }
 
 pub(crate) fn room(state: &[u8], table: &[u16]) -> bool {
@@ -108,8 +124,18 @@ pub(crate) fn room(state: &[u8], table: &[u16]) -> bool {
 }
 
 fn refusal(Fault { number, mark, start, len }: Fault) -> Verdict {
-    Verdict { number, step: 0, fact: NONE, rounds: 0, held: 0, mark, start, len }
+    let Unmet { kind, fact, round } = ALL_MET;
+    Verdict { number, step: 0, fact, rounds: 0, held: 0, kind, round, mark, start, len }
 }
+
+/// A condition that isn't met; one of N has the round in which its fact arose.
+struct Unmet {
+    kind: u8,
+    fact: u16,
+    round: u16,
+}
+
+const ALL_MET: Unmet = Unmet { kind: NO_KIND, fact: NONE, round: NONE };
 
 /// Where a run ends: the last state reached, its round numbers, and what is said of it.
 struct End {
@@ -124,10 +150,12 @@ fn run(parsed: &Parsed) -> End {
     let (mut rounds, mut numbers) = close(model, &stored);
     for (step, &name) in trace.steps.iter().enumerate() {
         let rule = &model.rules[name as usize];
-        if let Some(fact) = first_unmet(&rule.pos, &rule.neg, &numbers) {
+        let unmet = first_unmet(&rule.pos, &rule.neg, &numbers);
+        if let Some(Unmet { kind, fact, round }) = unmet {
             // The trace's section starts at byte 5, and the goal takes its first two bytes.
             let fault = Fault { number: BLOCKED, mark: TRACE, start: 7 + 2 * step, len: 2 };
-            let verdict = Verdict { step, fact, rounds, held: stored.len(), ..refusal(fault) };
+            let held = stored.len();
+            let verdict = Verdict { step, fact, rounds, held, kind, round, ..refusal(fault) };
             return End { stored, numbers, verdict };
         }
         stored = next_state(&stored, rule);
@@ -142,16 +170,20 @@ fn run(parsed: &Parsed) -> End {
         Some(_) => Fault { number: NOATTACK, mark: MODEL, start, len },
         None => Fault { number: ATTACK, mark: MODEL, start: 0, len: 0 },
     };
-    let (step, fact) = (trace.steps.len(), unmet.unwrap_or(NONE));
-    let verdict = Verdict { step, fact, rounds, held: stored.len(), ..refusal(fault) };
+    let (step, held) = (trace.steps.len(), stored.len());
+    let Unmet { kind, fact, round } = unmet.unwrap_or(ALL_MET);
+    let verdict = Verdict { step, fact, rounds, held, kind, round, ..refusal(fault) };
     End { stored, numbers, verdict }
 }
 
 /// P is searched before N; a fact is in the closure when it has a round number.
-fn first_unmet(pos: &[u16], neg: &[u16], numbers: &[u16]) -> Option<u16> {
+fn first_unmet(pos: &[u16], neg: &[u16], numbers: &[u16]) -> Option<Unmet> {
     let closed = |f: &u16| numbers[*f as usize] != NONE;
-    let missing = pos.iter().find(|f| !closed(f));
-    missing.or_else(|| neg.iter().find(|f| closed(f))).copied()
+    if let Some(&fact) = pos.iter().find(|f| !closed(f)) {
+        return Some(Unmet { kind: POSITIVE, fact, round: NONE });
+    }
+    let &fact = neg.iter().find(|f| closed(f))?;
+    Some(Unmet { kind: NEGATIVE, fact, round: numbers[fact as usize] })
 }
 
 /// Removal first, so that a fact in both P and A stays stored.

@@ -1,7 +1,6 @@
 //! From bytes to owned lists, or to the first fault in the fixed order.
 
-use crate::{Fault, COUNT, FACT, LONG, MODEL, NAME, NEGATED, ORDER, SHAPE, TRACE, VERSION};
-use std::collections::BTreeSet;
+use crate::{Fault, COUNT, FACT, LONG, MODEL, NAME, ORDER, SHAPE, TRACE, VERSION};
 
 #[derive(Clone, Debug, Default, PartialEq, Eq)]
 pub struct Clause {
@@ -90,7 +89,7 @@ pub fn parse(model: &[u8], trace: &[u8]) -> Result<Parsed, Fault> {
     Ok(Parsed { model, trace, attack_places })
 }
 
-/// The model's share of that, numbers 2 to 8, for closing called by itself.
+/// The model's share of that, numbers 2 to 7, for closing called by itself.
 pub fn parse_model(model: &[u8]) -> Result<Model, Fault> {
     judge_size(model, 65_536).map_err(in_model)?;
     judge_version(model).map_err(in_model)?;
@@ -140,11 +139,6 @@ fn read_model(file: &[u8]) -> Result<(Model, Vec<Part>), Fail> {
     let (end, rules) = read_records(file, end.end(), facts, &RULE)?;
     let (end, attacks) = read_records(file, end.end(), facts, &ATTACK_STATE)?;
     judge_tail(file, end)?;
-
-    // A head counts as one whether or not its clause can ever give it.
-    let heads: BTreeSet<u16> = clauses.iter().filter_map(|(_, split)| split.head).collect();
-    judge_negated(&heads, &rules)?;
-    judge_negated(&heads, &attacks)?;
 
     let attack_places = attacks.iter().map(|(part, _)| *part).collect();
     let model = Model {
@@ -258,15 +252,6 @@ fn take_list(bytes: &[u8]) -> Option<(Vec<u16>, &[u8])> {
     let count = u16::from_be_bytes([count[0], count[1]]) as usize;
     let (facts, after) = rest.split_at_checked(2 * count)?;
     Some((numbers(facts), after))
-}
-
-/// Rules and attack states both keep their N second.
-fn judge_negated(heads: &BTreeSet<u16>, records: &Records) -> Result<(), Fail> {
-    let holds_head = |split: &Split| split.lists[1].iter().any(|f| heads.contains(f));
-    match records.iter().find(|(_, split)| holds_head(split)) {
-        Some((part, _)) => Err((NEGATED, *part)),
-        None => Ok(()),
-    }
 }
 
 fn clause(mut split: Split) -> Clause {

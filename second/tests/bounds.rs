@@ -5,17 +5,17 @@ mod common;
 use common::judge;
 use second::*;
 
-/// The greatest step, fact, rounds, held, start and length of each verdict.
-fn greatest() -> [[usize; 6]; 12] {
-    let mut most = [[0; 6]; 12];
+/// The greatest step, fact, rounds, held, start, length and round of each verdict.
+fn greatest() -> [[usize; 7]; 12] {
+    let mut most = [[0; 7]; 12];
     // A dozen turns have each kind in most of its ways.
     for index in (gen::AT_BOUNDS - 1..10_000).step_by(gen::AT_BOUNDS as usize) {
         let pair = gen::pair(1, index);
-        let Verdict { number, step, fact, rounds, held, start, len, .. } =
+        let Verdict { number, step, fact, rounds, held, round, start, len, .. } =
             judge(&pair.model, &pair.trace);
-        let fact = if fact == NONE { 0 } else { fact as usize };
+        let [fact, round] = [fact, round].map(|n| if n == NONE { 0 } else { n as usize });
         let row = &mut most[number as usize];
-        for (so_far, value) in row.iter_mut().zip([step, fact, rounds, held, start, len]) {
+        for (so_far, value) in row.iter_mut().zip([step, fact, rounds, held, start, len, round]) {
             *so_far = value.max(*so_far);
         }
     }
@@ -32,10 +32,9 @@ fn every_field_of_every_verdict_gets_large() {
     large(ATTACK, &[0, 2, 3]);
     large(LONG, &[5]);
     [SHAPE, COUNT, FACT, ORDER].iter().for_each(|number| large(*number, &[4, 5]));
-    // A record with an N has at most 198 bytes besides its length, a name has 2.
-    [NEGATED, NAME].iter().for_each(|number| large(*number, &[4]));
-    large(BLOCKED, &[0, 1, 2, 3, 4]);
-    large(NOATTACK, &[0, 1, 2, 3, 4]);
+    // A name has 2 bytes.
+    large(NAME, &[4]);
+    [BLOCKED, NOATTACK].iter().for_each(|number| large(*number, &[0, 1, 2, 3, 4, 6]));
     let any = |field: usize| most.iter().map(|row| row[field]).max().unwrap();
     // Steps, facts and facts held at their bounds, sums and lengths of over two bytes, places in a model's last bytes.
     assert_eq!((any(0), any(1), any(3)), (1_024, 4_095, 4_096));

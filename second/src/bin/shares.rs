@@ -1,6 +1,6 @@
 //! `shares SEED COUNT`: how often each verdict number comes up in the mixed stream.
 
-use second::{check, gen, NAMES};
+use second::{check, gen, Tally};
 use std::time::{Duration, Instant};
 
 fn main() {
@@ -9,7 +9,7 @@ fn main() {
         eprintln!("usage: shares SEED COUNT");
         std::process::exit(2);
     };
-    let mut tally = [0u64; 12];
+    let mut tally = Tally::default();
     let (mut making, mut checking) = (Duration::ZERO, Duration::ZERO);
     for index in 0..count {
         let begun = Instant::now();
@@ -19,12 +19,9 @@ fn main() {
         let begun = Instant::now();
         let verdict = check(&pair.model, &pair.trace, &mut state, &mut table);
         checking += begun.elapsed();
-        tally[verdict.number as usize] += 1;
+        tally.add(&verdict);
     }
-    for (number, times) in tally.iter().enumerate() {
-        let share = 100.0 * *times as f64 / count as f64;
-        println!("{number:2} {:9} {times:9} {share:6.2}%", NAMES[number]);
-    }
+    tally.print();
     let each = |all: Duration| all.as_secs_f64() * 1e6 / count as f64;
     eprintln!("made in {:.2} us, checked in {:.2} us on average", each(making), each(checking));
 }

@@ -24,6 +24,10 @@ pub fn judge_in(model: &[u8], trace: &[u8], state_len: usize, table_len: usize) 
     if refused {
         assert_eq!((v.step, v.fact, v.rounds, v.held), (0, NONE, 0, 0));
     }
+    // Only an unmet condition has a kind, and only one of N a round, as the table has it.
+    assert_eq!(v.kind != NO_KIND, v.number == BLOCKED || v.number == NOATTACK);
+    let round = if v.kind == NEGATIVE { table[v.fact as usize] } else { NONE };
+    assert_eq!((v.round, v.fact == NONE), (round, v.kind == NO_KIND));
     let (bytes, entries) = if refused { (0, 0) } else { (512, 4_096) };
     assert!(state[bytes..].iter().all(|b| *b == 0xA5));
     assert!(table[entries..].iter().all(|e| *e == 0x5A5A));

@@ -12,7 +12,7 @@ enum { STACK = 1 << 20, PAINT = 0xA5, BOUND = 2048 };
 static uint8_t model[65536], trace[4096], state[512];
 static size_t model_len, trace_len;
 static uint16_t table[4096];
-static uint64_t out[8];
+static uint64_t out[CANTIVOREX_OUT_ENTRIES];
 
 static void *nothing(void *unused)
 {
@@ -21,13 +21,13 @@ static void *nothing(void *unused)
 
 static void *closing(void *unused)
 {
-    cantivorex_close(model, model_len, state, 512, table, 4096, out, 8);
+    cantivorex_close(model, model_len, state, 512, table, 4096, out, CANTIVOREX_OUT_ENTRIES);
     return unused;
 }
 
 static void *checking(void *unused)
 {
-    cantivorex_check(model, model_len, trace, trace_len, state, 512, table, 4096, out, 8);
+    cantivorex_check(model, model_len, trace, trace_len, state, 512, table, 4096, out, CANTIVOREX_OUT_ENTRIES);
     return unused;
 }
 

@@ -27,7 +27,7 @@ enum {
     CANTIVOREX_COUNT = 5,    /* a bound is passed */
     CANTIVOREX_FACT = 6,     /* a fact number of F or more */
     CANTIVOREX_ORDER = 7,    /* a list is not strictly ascending */
-    CANTIVOREX_NEGATED = 8,  /* a clause's head stands in an N */
+    CANTIVOREX_NEGATED = 8,  /* never given: a clause's head may stand in an N */
     CANTIVOREX_NAME = 9,     /* the trace names an attack state or a rule that the model lacks */
     CANTIVOREX_BLOCKED = 10, /* a step's rule cannot fire */
     CANTIVOREX_NOATTACK = 11 /* all steps fire, and the goal is not met */
@@ -37,7 +37,7 @@ enum {
 enum {
     CANTIVOREX_STATE_BYTES = 512,
     CANTIVOREX_TABLE_ENTRIES = 4096,
-    CANTIVOREX_OUT_ENTRIES = 8 /* of a check; closing needs one */
+    CANTIVOREX_OUT_ENTRIES = 10 /* of a check; closing needs one */
 };
 
 /* Where a verdict's values stand in `out`. */
@@ -47,23 +47,32 @@ enum {
     CANTIVOREX_OUT_FACT = 2,   /* the first unmet condition, or CANTIVOREX_NONE */
     CANTIVOREX_OUT_ROUNDS = 3, /* the rounds of all states reached */
     CANTIVOREX_OUT_HELD = 4,   /* the facts in the last state reached */
-    CANTIVOREX_OUT_MARK = 5,   /* whose bytes are at fault: 0 the model's, 1 the trace's */
-    CANTIVOREX_OUT_START = 6,  /* where they start */
-    CANTIVOREX_OUT_SIZE = 7    /* how many they are */
+    CANTIVOREX_OUT_KIND = 5,   /* of that condition, one of the kinds below */
+    CANTIVOREX_OUT_ROUND = 6,  /* of a negative one the round in which its fact arose, or CANTIVOREX_NONE */
+    CANTIVOREX_OUT_MARK = 7,   /* whose bytes are at fault: 0 the model's, 1 the trace's */
+    CANTIVOREX_OUT_START = 8,  /* where they start */
+    CANTIVOREX_OUT_SIZE = 9    /* how many they are */
 };
 
-/* No fact in a verdict, no round in a table. */
+/* Which condition is not met: none for any number but 10 and 11. */
+enum {
+    CANTIVOREX_KIND_NONE = 0,
+    CANTIVOREX_KIND_POSITIVE = 1, /* a fact of P is not in the closure */
+    CANTIVOREX_KIND_NEGATIVE = 2  /* a fact of N is; in round 0 if it is stored */
+};
+
+/* No fact and no round in a verdict, no round in a table. */
 #define CANTIVOREX_NONE 65535
 
-/* The verdict on a model and a trace: answers its number and writes its eight values to the front of `out`.
+/* The verdict on a model and a trace: answers its number and writes its ten values to the front of `out`.
  * For 1 to 9 state and table stay as they were. For 0, 10 and 11 the first 512 bytes of `state` hold the last state reached (fact
  * f is the bit of value 2^(f mod 8) in byte f/8) and the first 4,096 entries of `table` its round numbers. What lies beyond stays.
- * With an `out` of fewer than 8 entries the answer is 1 and nothing at all is changed. */
+ * With an `out` of fewer than 10 entries the answer is 1 and nothing at all is changed. */
 uint8_t cantivorex_check(const uint8_t *model, size_t model_len, const uint8_t *trace, size_t trace_len, uint8_t *state,
     size_t state_len, uint16_t *table, size_t table_len, uint64_t *out, size_t out_len);
 
 /* Closing by itself, from the state lent: answers 0 and writes the number of rounds to out[0] and the round numbers to the first
- * 4,096 entries of `table`. Otherwise it answers 1 to 8 for what it is lent, or 6 for a state with a fact of F or more, and changes
+ * 4,096 entries of `table`. Otherwise it answers 1 to 7 for what it is lent, or 6 for a state with a fact of F or more, and changes
  * nothing. With an `out` of no entries the answer is 1. */
 uint8_t cantivorex_close(const uint8_t *model, size_t model_len, const uint8_t *state, size_t state_len, uint16_t *table,
     size_t table_len, uint64_t *out, size_t out_len);

@@ -4,13 +4,33 @@
 pub const STATE_BYTES: usize = 512;
 pub const TABLE_ENTRIES: usize = 4_096;
 
-/// No fact in a verdict, no round in a table.
+/// How many values a verdict has.
+pub const VALUES: usize = 10;
+
+/// No fact and no round in a verdict, no round in a table.
 pub const NONE: usize = 65_535;
 
+/// By number; NEGATED is never given.
 pub const NAMES: [&str; 12] = [
     "ATTACK", "ROOM", "LONG", "VERSION", "SHAPE", "COUNT", "FACT", "ORDER", "NEGATED", "NAME",
     "BLOCKED", "NOATTACK",
 ];
+
+/// Which condition is not met: one of P that is not in the closure, or one of N that is.
+#[derive(Clone, Copy, Debug, PartialEq, Eq)]
+pub enum Kind {
+    None,
+    Positive,
+    Negative,
+}
+
+pub const KINDS: [Kind; 3] = [Kind::None, Kind::Positive, Kind::Negative];
+
+impl Kind {
+    pub fn name(self) -> &'static str {
+        ["none", "positive", "negative"][self as usize]
+    }
+}
 
 // A slice is lent as its pointer and its length. No function has a precondition of its own.
 extern "C" {
@@ -56,31 +76,51 @@ pub struct Verdict {
     pub fact: usize,
     pub rounds: usize,
     pub held: usize,
+    pub kind: Kind,
+    /// Of a negative condition, the round in which its fact arose: 0 if it is stored.
+    pub round: usize,
     pub mark: u8,
     pub start: usize,
     pub size: usize,
 }
 
 impl Verdict {
+    /// From its values, in the order of the fields.
+    pub fn of(values: [u64; VALUES]) -> Verdict {
+        let [number, step, fact, rounds, held, kind, round, mark, start, size] =
+            values.map(|value| value as usize);
+        let (number, kind, mark) = (number as u8, KINDS[kind], mark as u8);
+        Verdict { number, step, fact, rounds, held, kind, round, mark, start, size }
+    }
+
+    pub fn values(&self) -> [u64; VALUES] {
+        let Verdict { number, step, fact, rounds, held, kind, round, mark, start, size } = *self;
+        let (number, kind, mark) = (number as usize, kind as usize, mark as usize);
+        [number, step, fact, rounds, held, kind, round, mark, start, size].map(|n| n as u64)
+    }
+
     /// The program's one line, without the newline.
     pub fn line(&self) -> String {
         let Verdict { step, rounds, held, .. } = self;
-        let name = NAMES[self.number as usize];
-        let fact = if self.fact == NONE { "none".to_string() } else { self.fact.to_string() };
-        format!("{name} step {step} fact {fact} rounds {rounds} held {held}")
+        let (name, kind) = (NAMES[self.number as usize], self.kind.name());
+        let [fact, round] = [self.fact, self.round].map(|n| match n {
+            NONE => "none".to_string(),
+            _ => n.to_string(),
+        });
+        format!(
+            "{name} step {step} fact {fact} rounds {rounds} held {held} kind {kind} round {round}"
+        )
     }
 }
 
 /// The verdict on a model and a trace; the buffers change only for ATTACK, BLOCKED and NOATTACK.
 pub fn check(model: &[u8], trace: &[u8], state: &mut [u8], table: &mut [u16]) -> Verdict {
-    let mut out = [0; 8];
+    let mut out = [0; VALUES];
     check_into(model, trace, state, table, &mut out);
-    let [number, step, fact, rounds, held, mark, start, size] = out.map(|value| value as usize);
-    let (number, mark) = (number as u8, mark as u8);
-    Verdict { number, step, fact, rounds, held, mark, start, size }
+    Verdict::of(out)
 }
 
-/// The same as the library has it: the number, and the eight values at the front of `out`; with fewer entries ROOM and no change.
+/// The same as the library has it: the number, and the ten values at the front of `out`; with fewer entries ROOM and no change.
 pub fn check_into(
     model: &[u8],
     trace: &[u8],

@@ -3,6 +3,7 @@
 pub mod plain;
 pub mod watch;
 
+use cantivorex::VALUES;
 use second::Verdict;
 use std::fmt::Debug;
 
@@ -37,10 +38,11 @@ fn same_area<T: PartialEq + Debug>(what: &str, ours: &[T], theirs: &[T]) -> Resu
     }
 }
 
-fn values(v: &Verdict) -> [u64; 8] {
-    let Verdict { number, step, fact, rounds, held, mark, start, len } = *v;
-    let [step, rounds, held, start, len] = [step, rounds, held, start, len].map(|n| n as u64);
-    [number as u64, step, fact as u64, rounds, held, mark as u64, start, len]
+fn values(v: &Verdict) -> [u64; VALUES] {
+    let Verdict { number, step, fact, rounds, held, kind, round, mark, start, len } = *v;
+    let [number, kind, mark] = [number, kind, mark].map(usize::from);
+    let [fact, round] = [fact, round].map(usize::from);
+    [number, step, fact, rounds, held, kind, round, mark, start, len].map(|n| n as u64)
 }
 
 /// A verdict of both, or what differs. The buffers are left as both leave them.
@@ -52,12 +54,12 @@ pub fn check(
 ) -> Result<Verdict, String> {
     let (mut our_state, mut our_table) = (guarded(state, 0xC3), guarded(table, 0xC3C3));
     let (mut state_2, mut table_2) = (our_state.clone(), our_table.clone());
-    let mut our_out = guarded(&[7; 9], 9);
+    let mut our_out = guarded(&[7; VALUES + 1], 9);
     let mut out_2 = our_out.clone();
     let (s, t, o) = (inside(&mut our_state), inside(&mut our_table), inside(&mut our_out));
     let number = cantivorex::check_into(model, trace, s, t, o);
     let verdict = second::check(model, trace, inside(&mut state_2), inside(&mut table_2));
-    inside(&mut out_2)[..8].copy_from_slice(&values(&verdict));
+    inside(&mut out_2)[..VALUES].copy_from_slice(&values(&verdict));
     same("the number", number, verdict.number)?;
     same_area("the verdict's values", &our_out, &out_2)?;
     same_area("the state", &our_state, &state_2)?;

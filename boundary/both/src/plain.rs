@@ -1,4 +1,4 @@
-//! A plain Rust reader of a model in place, to measure against: the number of 2 to 8, or 0, without lists and without places.
+//! A plain Rust reader of a model in place, to measure against: the number of 2 to 7, or 0, without lists and without places.
 
 /// The least fault number so far; 0 is none.
 fn worse(a: u8, b: u8) -> u8 {
@@ -55,25 +55,15 @@ fn clause_fault(clause: &[u8], facts: usize) -> u8 {
     worse(head, list_fault(&clause[2..], facts))
 }
 
-/// 4 to 7 of a record of lists. The second list is its N, of which `negated` says whether a head stands in it.
-fn lists_fault(
-    record: &[u8],
-    count: usize,
-    facts: usize,
-    negated: &mut bool,
-    heads: &[u64; 64],
-) -> u8 {
+/// 4 to 7 of a record of lists.
+fn lists_fault(record: &[u8], count: usize, facts: usize) -> u8 {
     let (mut rest, mut fault) = (record, 0);
-    for index in 0..count {
+    for _ in 0..count {
         let Some((len, after)) = rest.split_at_checked(2) else { return 4 };
         let Some((list, after)) = after.split_at_checked(2 * word(len)) else { return 4 };
         rest = after;
         fault = worse(fault, if word(len) > 32 { 5 } else { 0 });
         fault = worse(fault, list_fault(list, facts));
-        if index == 1 {
-            let head = |f: usize| heads[f / 64 % 64] >> (f % 64) & 1 == 1;
-            *negated |= list.chunks_exact(2).map(word).any(head);
-        }
     }
     if rest.is_empty() {
         fault
@@ -82,7 +72,7 @@ fn lists_fault(
     }
 }
 
-fn records(section: &[u8], most: usize, mut fault_of: impl FnMut(&[u8]) -> u8) -> u8 {
+fn records(section: &[u8], most: usize, fault_of: impl Fn(&[u8]) -> u8) -> u8 {
     let (mut rest, mut index) = (section, 0);
     while !rest.is_empty() {
         let Some(record) = record(&mut rest) else { return 4 };
@@ -103,7 +93,7 @@ pub fn judge(model: &[u8]) -> u8 {
     if model.first() != Some(&1) {
         return 3;
     }
-    judge_sections(&model[1..]).unwrap_or_else(|number| number)
+    judge_sections(&model[1..]).err().unwrap_or(0)
 }
 
 fn none(number: u8) -> Result<(), u8> {
@@ -114,28 +104,20 @@ fn none(number: u8) -> Result<(), u8> {
     }
 }
 
-fn judge_sections(mut rest: &[u8]) -> Result<u8, u8> {
+fn judge_sections(mut rest: &[u8]) -> Result<(), u8> {
     let sizes = section(&mut rest).ok_or(4)?;
     none(if sizes.len() == 2 { 0 } else { 4 })?;
     let facts = word(sizes);
     none(if facts > 4_096 { 5 } else { 0 })?;
     let initial = section(&mut rest).ok_or(4)?;
     none(if initial.len() % 2 == 1 { 4 } else { list_fault(initial, facts) })?;
-    let mut heads = [0u64; 64];
-    none(records(section(&mut rest).ok_or(4)?, 4_096, |clause| {
-        let fault = clause_fault(clause, facts);
-        if fault == 0 {
-            heads[word(clause) / 64] |= 1 << (word(clause) % 64);
-        }
-        fault
-    }))?;
-    let mut negated = false;
+    let clauses = section(&mut rest).ok_or(4)?;
+    none(records(clauses, 4_096, |clause| clause_fault(clause, facts)))?;
     let rules = section(&mut rest).ok_or(4)?;
-    none(records(rules, 2_048, |r| lists_fault(r, 3, facts, &mut negated, &heads)))?;
+    none(records(rules, 2_048, |rule| lists_fault(rule, 3, facts)))?;
     let goals = section(&mut rest).ok_or(4)?;
-    none(records(goals, 64, |r| lists_fault(r, 2, facts, &mut negated, &heads)))?;
-    none(if rest.is_empty() { 0 } else { 4 })?;
-    Ok(if negated { 8 } else { 0 })
+    none(records(goals, 64, |goal| lists_fault(goal, 2, facts)))?;
+    none(if rest.is_empty() { 0 } else { 4 })
 }
 
 #[cfg(test)]

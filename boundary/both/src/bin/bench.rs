@@ -275,8 +275,8 @@ fn many_rules() -> Model {
     Model { rules: vec![rule; 315], ..with(4_096, vec![0], clauses) }
 }
 
-/// As many clauses as there may be and as many N facts as then fit: every N fact is held against every head.
-fn many_negated() -> Model {
+/// As many clauses as there may be and as many N facts as then fit.
+fn heads_and_negated() -> Model {
     let rule = Rule { neg: up(0), ..Rule::default() };
     let clauses = (0..4_096).map(|k| Clause { head: 32 + k % 4_064, body: vec![] }).collect();
     Model { rules: vec![rule; 680], ..with(4_096, vec![0], clauses) }
@@ -297,7 +297,7 @@ fn judgings() -> Vec<(&'static str, Vec<u8>)> {
         ("full file of clauses of 1", write_model(&bodies(4_096, 1))),
         ("full file of clauses of 16", write_model(&bodies(4_096, 16))),
         ("full file of rules of 96 facts", write_model(&many_rules())),
-        ("4,096 heads and 21,760 N facts", write_model(&many_negated())),
+        ("4,096 heads and 21,760 N facts", write_model(&heads_and_negated())),
     ]
 }
 

@@ -4,7 +4,7 @@
 
 use both::watch;
 use second::gen::{self, Pair, Rng};
-use second::NAMES;
+use second::{Tally, Verdict};
 use std::path::Path;
 use std::process::exit;
 
@@ -35,12 +35,12 @@ fn parent(seed: u64, count: u64) -> i32 {
 /// Compares pair after pair; the place is where the parent finds the pair that is being compared.
 fn child(seed: u64, count: u64, place: &Path) -> i32 {
     let mut place = watch::Place::open(place);
-    let mut tally = [0; 12];
+    let mut tally = Tally::default();
     for index in 0..count {
         place.set(index);
         let pair = gen::pair(seed, index);
         match compare(&pair, seed, index) {
-            Ok(number) => tally[number as usize] += 1,
+            Ok(verdict) => tally.add(&verdict),
             Err(difference) => {
                 println!("pair {index} of seed {seed}: {difference}");
                 answers(&pair, seed, index);
@@ -48,10 +48,10 @@ fn child(seed: u64, count: u64, place: &Path) -> i32 {
             }
         }
     }
-    let rare = shares(&tally, count);
+    tally.print();
     // A few pairs say nothing of the shares.
-    if rare && count >= 10_000 {
-        println!("a verdict comes up too seldom: the pairs do not try it");
+    if !tally.is_mixed() && count >= 10_000 {
+        println!("a verdict or a kind comes up too seldom: the pairs do not try it");
         return 1;
     }
     println!("{count} passed, 0 failed");
@@ -73,12 +73,13 @@ fn failed(pair: &Pair, index: u64) -> i32 {
     println!("{index} passed, 1 failed");
     1
 }
+
 /// One pair: a check with and without room for the verdict, closing by itself, and three places.
-fn compare(pair: &Pair, seed: u64, index: u64) -> Result<u8, String> {
+fn compare(pair: &Pair, seed: u64, index: u64) -> Result<Verdict, String> {
     let Pair { model, trace, state_len, .. } = pair;
     let mut rng = Rng::new(seed ^ 0xC0FFEE, index);
     let (mut state, mut table) = pair.buffers(seed, index);
-    both::check_short(model, trace, &state, &table, rng.below(8))?;
+    both::check_short(model, trace, &state, &table, rng.below(cantivorex::VALUES))?;
     let mut start = gen::start_state(seed, index, facts(model));
     // Where the pair is to have too short a state, so is this one.
     start.truncate(if *state_len < 512 { *state_len } else { start.len() });
@@ -91,7 +92,7 @@ fn compare(pair: &Pair, seed: u64, index: u64) -> Result<u8, String> {
         let room = rng.below(2 + file.len());
         both::part(model, trace, mark, start, size, room)?;
     }
-    Ok(verdict.number)
+    Ok(verdict)
 }
 
 /// F as the file has it, at most 4,096; a starting state is made for so many facts.
@@ -103,16 +104,6 @@ fn facts(model: &[u8]) -> usize {
 fn somewhere(rng: &mut Rng, len: usize) -> usize {
     let near = len + rng.below(3);
     [rng.below(len + 1), rng.below(len + 1), near, usize::MAX - rng.below(2)][rng.below(4)]
-}
-
-/// Prints how often each verdict came up; answers whether one that must is under 1 in 200.
-fn shares(tally: &[u64; 12], count: u64) -> bool {
-    for (number, times) in tally.iter().enumerate() {
-        let share = 100.0 * *times as f64 / count as f64;
-        println!("{number:2} {:9} {times:9} {share:6.2}%", NAMES[number]);
-    }
-    // ROOM says nothing of the files.
-    (0..12).any(|number| number != 1 && tally[number] * 200 < count)
 }
 
 /// Both verdicts, for a look at a pair that differs.

@@ -36,17 +36,17 @@ zeros() {
 }
 
 refused() {
-    printf '%s step 0 fact none rounds 0 held 0' "$1"
+    printf '%s step 0 fact none rounds 0 held 0 kind none round none' "$1"
 }
 
-# Document 01's table of traces on the desk model.
-desk_lines='A|ATTACK step 1 fact none rounds 4 held 4
-B|BLOCKED step 1 fact 5 rounds 2 held 2
-C|BLOCKED step 1 fact 3 rounds 4 held 4
-D|ATTACK step 1 fact none rounds 2 held 2
-E|NOATTACK step 0 fact 0 rounds 2 held 3
-F|NOATTACK step 1 fact 3 rounds 4 held 3
-G|NAME step 0 fact none rounds 0 held 0'
+# Document 01's table of traces on the desk model, with document 02's kind and round.
+desk_lines='A|ATTACK step 1 fact none rounds 4 held 4 kind none round none
+B|BLOCKED step 1 fact 5 rounds 2 held 2 kind positive round none
+C|BLOCKED step 1 fact 3 rounds 4 held 4 kind negative round 0
+D|ATTACK step 1 fact none rounds 2 held 2 kind none round none
+E|NOATTACK step 0 fact 0 rounds 2 held 3 kind negative round 0
+F|NOATTACK step 1 fact 3 rounds 4 held 3 kind positive round none
+G|NAME step 0 fact none rounds 0 held 0 kind none round none'
 
 # The last line, and the exit.
 summary() {

@@ -27,7 +27,7 @@ test_lines() {
         same "case $name" "$line" "$out"
         same "case $name: exit" 0 "$status"
     done <<<"$desk_lines"
-    same 'the whole output has one line end' $'BLOCKED step 1 fact 5 rounds 2 held 2\n.' \
+    same 'the whole output has one line end' $'BLOCKED step 1 fact 5 rounds 2 held 2 kind positive round none\n.' \
         "$("$command" check "$desk" "$root/samples/B.trace"; printf .)"
 }
 
@@ -179,16 +179,7 @@ test_fact_order() {
         "01 00000002 0006 00000004 0001 0001 $clauses $rules $goals"
 }
 
-test_negated_name() {
-    local why='no N may have a fact that is derived'
-    told NEGATED 'model bytes 41 to 50 (00 08 00 00 00 01 00 05 00 00)' \
-        "section rules, rule 0: fact 5 stands in its N and is the head of clause 1: $why" \
-        "$head_part $clauses 0000000A 0008 0000 0001 0005 0000 $goals"
-    cp "$root/samples/desk.names" "$tmp/m.names"
-    sed -i '/^rule [12]/d' "$tmp/m.names"
-    try "$tmp/m.model" "$tmp/t.trace"
-    has 'a name stands beside the number' 'rule 0 sign: fact 5 edits(ben) stands in its N' "$err"
-    rm "$tmp/m.names"
+test_name() {
     told NAME 'trace bytes 5 to 6 (00 02)' \
         'the goal: it names goal 2, and the model has goals 0 to 1' "$fine" '01 00000002 0002'
     told NAME 'trace bytes 9 to 10 (00 09)' \
@@ -219,6 +210,8 @@ test_usage() {
     says 'a limit beyond all clocks' 2 "--limit wants seconds, more than 0, and not '1e300'"
     try night "$tmp" --only SOME
     says 'a verdict that is none' 2 "there is no verdict 'SOME'; the verdicts are ATTACK, ROOM,"
+    try night "$tmp" --only NEGATED
+    says 'a verdict that is never given' 2 "there is no verdict 'NEGATED'; the verdicts are ATTACK, ROOM,"
     try night "$tmp" --tsv=yes
     says 'a value too many' 2 '--tsv takes no value'
     try night "$tmp" --model "$desk" --model "$desk"
@@ -258,7 +251,7 @@ test_exit_verdict() {
 
 # Standard input, pipes, links, odd names, another folder.
 test_files() {
-    local line='BLOCKED step 1 fact 5 rounds 2 held 2'
+    local line='BLOCKED step 1 fact 5 rounds 2 held 2 kind positive round none'
     same 'the trace from standard input' "$line" "$("$command" "$desk" - <"$root/samples/B.trace")"
     same 'the model from a pipe' "$line" "$(cat "$desk" | "$command" check - "$root/samples/B.trace")"
     same 'both from <(..)' "$line" "$("$command" <(cat "$desk") <(cat "$root/samples/B.trace"))"
@@ -346,7 +339,7 @@ state 1, after step 0, rule 0 sign: 4 stored, 2 reached by closing in 2 rounds, 
   reached:     2 edits(ana) (round 1), 5 edits(ben) (round 2)
   not reached: none
 BLOCKED: step 1, rule 0 sign, can't fire: fact 3 frozen is in the way, since it is stored
-BLOCKED step 1 fact 3 rounds 4 held 4" "$out"
+BLOCKED step 1 fact 3 rounds 4 held 4 kind negative round 0" "$out"
     ends A 'ATTACK: the only step fires, and goal 0 ben edits a frozen form is met in state 1'
     ends B "BLOCKED: step 1, rule 0 sign, can't fire: fact 5 edits(ben) is missing"
     ends E "NOATTACK: there are no steps, but goal 1 ben is deputy and ana no clerk is not met in state 0: $(
@@ -383,16 +376,35 @@ test_table2() {
         "$(cd "$root/samples" && while read -r file; do cmp "$file" "$tmp/made/$file"; done <"$tmp/list" 2>&1)"
     same 'and nothing else' "$(<"$tmp/list")" "$(cd "$root/samples" && find . -type f ! -path './tables/*' | sort)"
     try night "$folder" --model "$folder/table2.model"
-    same 'the verdicts on Table 2' "NOATTACK step 1 fact 20 rounds 2 held 5           a-moves
-BLOCKED step 1 fact 0 rounds 2 held 5             a-moves-twice
-ATTACK step 0 fact none rounds 1 held 6           at-first
-NOATTACK step 0 fact 21 rounds 1 held 6           attack
-NOATTACK step 1 fact 20 rounds 2 held 5           attack-after
+    same 'the verdicts on Table 2' "NOATTACK step 1 fact 20 rounds 2 held 5 kind positive round none          a-moves
+BLOCKED step 1 fact 0 rounds 2 held 5 kind positive round none            a-moves-twice
+ATTACK step 0 fact none rounds 1 held 6 kind none round none              at-first
+NOATTACK step 0 fact 21 rounds 1 held 6 kind positive round none          attack
+NOATTACK step 1 fact 20 rounds 2 held 5 kind positive round none          attack-after
 5 traces with $folder/table2.model: ATTACK 1, BLOCKED 1, NOATTACK 3; 0 not read" "$out"
     try count "$folder/table2.model" "$folder/a-moves.trace"
     same 'Example 2' '  reached:     20 xs(a,f1) (round 1), 23 xs(b,f2) (round 1)
   reached:     23 xs(b,f2) (round 1)' "$(grep reached: <<<"$out" | grep -v not)"
     has 'Example 2: what is gone' 'goal 48 both is not met in state 1: fact 20 xs(a,f1) is missing' "$out"
+}
+
+# Document 001's task engine: a clerk is granted a task unless `denied`, which clauses derive, is in the way.
+test_tasks() {
+    local folder=$root/samples/tasks
+    try night "$folder" --model "$folder/tasks.model"
+    same 'the verdicts on the task engine' "\
+BLOCKED step 4 fact 29 rounds 5 held 11 kind negative round 1             denied-by-duty
+BLOCKED step 1 fact 30 rounds 2 held 10 kind negative round 1             denied-by-role
+ATTACK step 2 fact none rounds 3 held 10 kind none round none             granted
+ATTACK step 0 fact none rounds 1 held 9 kind none round none              may
+NOATTACK step 0 fact 30 rounds 1 held 9 kind negative round 1             may-not
+5 traces with $folder/tasks.model: ATTACK 2, BLOCKED 2, NOATTACK 1; 0 not read" "$out"
+    try count "$folder/tasks.model" "$folder/denied-by-duty.trace"
+    same 'what is in the way of the second task' "BLOCKED: step 4, rule 7 grant(post,ana), can't fire: $(
+        )fact 29 denied(task(post,1,loan),ana) is in the way since round 1" "$(tail -n 2 <<<"$out" | head -n 1)"
+    try count "$folder/tasks.model" "$folder/may-not.trace"
+    has 'a goal whose only condition is a head' "goal 7 may(post,ben) is not met in state 0: $(
+        )fact 30 denied(task(post,1,loan),ben) is in the way since round 1" "$out"
 }
 
 # unfit LABEL REASON LINES: a names file that doesn't fit is told, and the numbers stand alone.
@@ -431,13 +443,13 @@ pair() {
 }
 
 test_night() {
-    local forged='ATTACK step 1 fact none rounds 4 held 4'
+    local forged='ATTACK step 1 fact none rounds 4 held 4 kind none round none'
     mkdir "$tmp/night"
     try night "$tmp/night"
     says 'an empty folder' 1 'there is no model and no trace'
     pair only A
     try night "$tmp/night"
-    same 'one pair' "ATTACK step 1 fact none rounds 4 held 4           only
+    same 'one pair' "ATTACK step 1 fact none rounds 4 held 4 kind none round none              only
 1 pair: ATTACK 1; 0 without a partner, 0 not read" "$out"
     rm "$tmp"/night/*
     pair 'a b' B
@@ -451,13 +463,13 @@ test_night() {
     local why="bytes 5 to 6 (00 02), the goal: it names goal 2, and the model has goals 0 to 1"
     same 'all pairs: exit' 0 "$status"
     same 'all pairs: in order of names, which can pass for nothing else' "\
-ATTACK step 1 fact none rounds 2 held 2           -dash
-NAME step 0 fact none rounds 0 held 0             '$forged'
-NOATTACK step 0 fact 0 rounds 2 held 3            Z
-ATTACK step 1 fact none rounds 4 held 4           a
-BLOCKED step 1 fact 5 rounds 2 held 2             'a b'
-BLOCKED step 1 fact 3 rounds 4 held 4             a.1
-NAME step 0 fact none rounds 0 held 0             'x\\n$forged'
+ATTACK step 1 fact none rounds 2 held 2 kind none round none              -dash
+NAME step 0 fact none rounds 0 held 0 kind none round none                '$forged'
+NOATTACK step 0 fact 0 rounds 2 held 3 kind negative round 0              Z
+ATTACK step 1 fact none rounds 4 held 4 kind none round none              a
+BLOCKED step 1 fact 5 rounds 2 held 2 kind positive round none            'a b'
+BLOCKED step 1 fact 3 rounds 4 held 4 kind negative round 0               a.1
+NAME step 0 fact none rounds 0 held 0 kind none round none                'x\\n$forged'
 7 pairs: ATTACK 2, BLOCKED 2, NAME 2, NOATTACK 1; 0 without a partner, 0 not read
 refused: '$forged': NAME: the trace '$tmp/night/$forged.trace', $why
 refused: 'x\\n$forged': NAME: the trace '$tmp/night/x\\n$forged.trace', $why" "$out"
@@ -482,14 +494,14 @@ test_gaps() {
     ln -sf nowhere "$tmp/night/lost.trace"
     try night "$tmp/night"
     same 'gaps: exit' 1 "$status"
-    same 'gaps: each in its place' "ATTACK step 1 fact none rounds 2 held 2           -dash
-no model                                          Z
-no trace                                          a
-BLOCKED step 1 fact 5 rounds 2 held 2             'a b'
-BLOCKED step 1 fact 3 rounds 4 held 4             a.1
-not read                                          lost
-not read                                          m
-not read                                          pipe
+    same 'gaps: each in its place' "ATTACK step 1 fact none rounds 2 held 2 kind none round none              -dash
+no model                                                                  Z
+no trace                                                                  a
+BLOCKED step 1 fact 5 rounds 2 held 2 kind positive round none            'a b'
+BLOCKED step 1 fact 3 rounds 4 held 4 kind negative round 0               a.1
+not read                                                                  lost
+not read                                                                  m
+not read                                                                  pipe
 6 pairs: ATTACK 1, BLOCKED 2; 2 without a partner, 3 not read
 not read: lost: there is no file '$tmp/night/lost.trace'
 not read: m: '$tmp/night/m.model' is a folder, not a file
@@ -511,7 +523,7 @@ without a partner: Z.trace, a.model" "$out"
 test_one_model() {
     local name line expected=''
     while IFS='|' read -r name line; do
-        expected+=$(printf '%-48s  %s' "$line" "$name")$'\n'
+        expected+=$(printf '%-72s  %s' "$line" "$name")$'\n'
     done <<<"$desk_lines"
     try night "$root/samples" --model "$desk"
     same 'one model: exit' 0 "$status"
@@ -535,16 +547,16 @@ test_tsv() {
     : >"$tmp/tsv/d.trace"
     try night "$tmp/tsv" --tsv
     same 'tsv: exit' 1 "$status"
-    same 'tsv: every row has the same columns' 13 "$(awk -F '\t' '{ print NF }' <<<"$out" | sort -u)"
+    same 'tsv: every row has the same columns' 15 "$(awk -F '\t' '{ print NF }' <<<"$out" | sort -u)"
     same 'tsv: what they are' \
-        'name verdict step fact rounds held file start size model_sha256 trace_sha256 seconds checker' \
+        'name verdict step fact rounds held kind round file start size model_sha256 trace_sha256 seconds checker' \
         "$(head -n 1 <<<"$out" | tr '\t' ' ')"
-    same 'tsv: a verdict' "a\\tb"$'\t'"BLOCKED"$'\t1\t5\t2\t2\ttrace\t9\t2\t'"$sums"$'\t'"$version" \
-        "$(sed -n 2p <<<"$out" | cut -f 1-11,13)"
+    same 'tsv: a verdict' "a\\tb"$'\t'"BLOCKED"$'\t1\t5\t2\t2\tpositive\tnone\ttrace\t9\t2\t'"$sums"$'\t'"$version" \
+        "$(sed -n 2p <<<"$out" | cut -f 1-13,15)"
     same 'tsv: a file over its size has no sum' \
-        "c LONG 0 none 0 0 model 0 65537 - $(sha256sum </dev/null | cut -c 1-64)" \
-        "$(sed -n 3p <<<"$out" | cut -f 1-11 | tr '\t' ' ')"
-    same 'tsv: no pair' "d no model - - - - - - - - -" "$(sed -n 4p <<<"$out" | cut -f 1-11 | tr '\t' ' ')"
+        "c LONG 0 none 0 0 none none model 0 65537 - $(sha256sum </dev/null | cut -c 1-64)" \
+        "$(sed -n 3p <<<"$out" | cut -f 1-13 | tr '\t' ' ')"
+    same 'tsv: no pair' "d no model - - - - - - - - - - -" "$(sed -n 4p <<<"$out" | cut -f 1-13 | tr '\t' ' ')"
     has 'tsv: the count goes elsewhere' '2 pairs: BLOCKED 1, LONG 1; 1 without a partner, 0 not read' "$err"
     err=$(PATH=$tmp "$program" night "$tmp/tsv" --tsv 2>&1 >/dev/null)
     same 'tsv without sha256sum: exit' 1 $?
@@ -565,9 +577,9 @@ test_two_hundred() {
     to=$(date +%s%N)
     printf 'measured: 200 pairs of twelve steps in %s ms\n' $(((to - from) / 1000000))
     same '200 pairs: exit' 0 "$status"
-    same '200 pairs: the lines' '200 ATTACK step 12 fact none rounds 26 held 4' \
-        "$(head -n 200 <<<"$out" | cut -c 1-41 | sort | uniq -c | tr -s ' ' | sed 's/^ //')"
-    same '200 pairs: the names' "$(seq 0 199 | LC_ALL=C sort)" "$(head -n 200 <<<"$out" | cut -c 51-)"
+    same '200 pairs: the lines' '200 ATTACK step 12 fact none rounds 26 held 4 kind none round none' \
+        "$(head -n 200 <<<"$out" | cut -c 1-62 | sort | uniq -c | tr -s ' ' | sed 's/^ //')"
+    same '200 pairs: the names' "$(seq 0 199 | LC_ALL=C sort)" "$(head -n 200 <<<"$out" | cut -c 75-)"
     same '200 pairs: the count' '200 pairs: ATTACK 200; 0 without a partner, 0 not read' "${out##*$'\n'}"
     "$command" night "$tmp/many" >"$tmp/first" &
     "$command" night "$tmp/many" >"$tmp/second"
@@ -657,7 +669,7 @@ test_building() {
     ("$command" "$desk" "$root/samples/A.trace" >"$tmp/first" 2>"$tmp/first.err") &
     try "$desk" "$root/samples/A.trace"
     wait $!
-    local line='ATTACK step 1 fact none rounds 4 held 4'
+    local line='ATTACK step 1 fact none rounds 4 held 4 kind none round none'
     same 'two first runs at once: both answer' "$line $line" "$out $(<"$tmp/first")"
     same 'two first runs at once: one builds, one waits' \
         $'cantivorex: building, once, some minutes\ncantivorex: waiting for another build' \
@@ -699,7 +711,7 @@ test_version
 test_shape
 test_count_number
 test_fact_order
-test_negated_name
+test_name
 test_usage
 test_help
 test_exit_verdict
@@ -707,6 +719,7 @@ test_files
 test_lost_output
 test_show_and_count
 test_table2
+test_tasks
 test_names
 test_night
 test_gaps

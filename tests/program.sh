@@ -46,17 +46,17 @@ small() {
 # Each model: version; F; initial facts; clauses; rules; attack states.
 test_small_models() {
     small H '01 00000002 0000  00000000  00000000  00000000  00000006 0004 0000 0000' \
-        'ATTACK step 0 fact none rounds 0 held 0'
+        'ATTACK step 0 fact none rounds 0 held 0 kind none round none'
     small I '01 00000002 0001  00000000  00000004 0002 0000  00000000  00000008 0006 0001 0000 0000' \
-        'ATTACK step 0 fact none rounds 1 held 0'
+        'ATTACK step 0 fact none rounds 1 held 0 kind none round none'
     small J '01 00000002 0001  00000000  00000006 0004 0000 0000  00000000  00000008 0006 0001 0000 0000' \
-        'NOATTACK step 0 fact 0 rounds 0 held 0'
+        'NOATTACK step 0 fact 0 rounds 0 held 0 kind positive round none'
     small K '01 00000002 0002  00000000  0000000C 0004 0000 0001 0004 0001 0000  00000000
-        00000008 0006 0001 0000 0000' 'NOATTACK step 0 fact 0 rounds 0 held 0'
+        00000008 0006 0001 0000 0000' 'NOATTACK step 0 fact 0 rounds 0 held 0 kind positive round none'
     small L '01 00000002 0004  00000002 0000  00000012 0004 0003 0002 0004 0002 0001 0004 0001 0000  00000000
-        00000008 0006 0001 0003 0000' 'ATTACK step 0 fact none rounds 3 held 1'
+        00000008 0006 0001 0003 0000' 'ATTACK step 0 fact none rounds 3 held 1 kind none round none'
     small 'L reversed' '01 00000002 0004  00000002 0000  00000012 0004 0001 0000 0004 0002 0001 0004 0003 0002
-        00000000  00000008 0006 0001 0003 0000' 'ATTACK step 0 fact none rounds 3 held 1'
+        00000000  00000008 0006 0001 0003 0000' 'ATTACK step 0 fact none rounds 3 held 1 kind none round none'
 }
 
 test_missing_files() {
@@ -75,7 +75,7 @@ test_missing_files() {
     same 'a missing file is no failure' '' "$err"
     cp "$desk" "$tmp/case/case.model"
     ask
-    same 'the whole output has one line end' $'ATTACK step 1 fact none rounds 4 held 4\n' "$out"
+    same 'the whole output has one line end' $'ATTACK step 1 fact none rounds 4 held 4 kind none round none\n' "$out"
 }
 
 # no_line LABEL FILE REASON: the program prints no line, and names the file and the reason.
@@ -139,14 +139,14 @@ CODE
     new_case
     cp "$desk" "$tmp/case/case.model"
     cp "$root/samples/B.trace" "$tmp/case/case.trace"
-    same 'seven bytes at a time' 'BLOCKED step 1 fact 5 rounds 2 held 2' "$(oddly)"
+    same 'seven bytes at a time' 'BLOCKED step 1 fact 5 rounds 2 held 2 kind positive round none' "$(oddly)"
     # 101 bytes take 15 reads and one for the end; the trace's first is the 17th
     same 'the model fails midway' 'case.model: Input/output error' "$(oddly FAIL_READ=5)"
     same 'the model fails at its end' 'case.model: Input/output error' "$(oddly FAIL_READ=16)"
     same 'the trace fails midway' 'case.trace: Input/output error' "$(oddly FAIL_READ=18)"
     # the name, " step " and 1 are written; the fourth write is " fact "
     same 'the line fails midway' "BLOCKED step 1the verdict's line: Input/output error" "$(oddly FAIL_WRITE=4)"
-    has 'the line has no end' "held 2the verdict's line: Input/output error" "$(oddly FAIL_WRITE=10)"
+    has 'the line has no end' "round nonethe verdict's line: Input/output error" "$(oddly FAIL_WRITE=14)"
 }
 
 # sized LABEL NAME FILE ZEROS: the verdict's name with so many zeros behind a file of the case.

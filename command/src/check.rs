@@ -4,7 +4,6 @@ use crate::args::{Args, Known};
 use crate::failure::Failure;
 use crate::files::Pair;
 use crate::judge;
-use crate::names::Names;
 use crate::output::{tell, Output};
 use crate::places::refusal;
 use crate::{operands, Command};
@@ -15,13 +14,14 @@ pub const COMMAND: Command = Command {
     brief: "the verdict on one trace, as one line",
     help: "\
 The line goes to standard output: the verdict's name, the step, the fact, the
-rounds and the facts held. For a refusal a line on standard error says which
-file is at fault, which bytes, in which section or record, and what was
-expected. How any other trace ends `cantivorex count` says in words.
+rounds, the facts held, and of the condition that isn't met the kind and the
+round. For a refusal a line on standard error says which file is at fault,
+which bytes, in which section or record, and what was expected. How any other
+trace ends `cantivorex count` says in words.
 
   --exit-verdict  the exit is the verdict's number: 0 ATTACK, 10 BLOCKED,
-                  11 NOATTACK, and 2 to 9 for LONG to NAME; what is 1 or 2
-                  without this option is then 101 or 102
+                  11 NOATTACK, 9 NAME, and 2 to 7 for LONG to ORDER; what is
+                  1 or 2 without this option is then 101 or 102
 
 MODEL or TRACE may be - for standard input. A file whose name starts with a
 dash stands after --.
@@ -57,8 +57,7 @@ fn check(args: &Args) -> Result<u8, Failure> {
     output.line(&verdict.line())?;
     output.flush()?;
     if judge::is_refusal(&verdict) {
-        let names = Names::beside(&pair.model_name, &pair.model)?;
-        tell(&refusal(&verdict, &pair, &names))?;
+        tell(&refusal(&verdict, &pair))?;
     }
     Ok(verdict.number)
 }

@@ -55,7 +55,7 @@ fn run(args: &Args) -> Result<u8, Failure> {
     if is_refusal(&judged.verdict) {
         output.line(&match is_model_fine && !has_trace {
             true => "it has no attack state, so that no trace can be checked with it".to_string(),
-            false => refusal(&judged.verdict, &pair, &names),
+            false => refusal(&judged.verdict, &pair),
         })?;
     }
     output.flush()?;
@@ -104,7 +104,7 @@ impl Report<'_> {
             self.output.flush()?;
         }
         if has_trace {
-            self.output.line(&ending(last, goal, steps, self.names))?;
+            self.output.line(&ending(&last.verdict, goal, steps, self.names))?;
             self.output.line(&last.verdict.line())?;
         }
         Ok(())

@@ -1,12 +1,12 @@
 //! How a run ends, in words: which condition, of which rule or goal, is missing or in the way.
 
-use crate::judge::{self, Judged};
+use crate::judge;
 use crate::names::Names;
 use crate::output::counted;
+use library::{Kind, Verdict};
 
 /// For a pair that isn't refused; `goal` and `steps` are the trace's.
-pub fn ending(judged: &Judged, goal: usize, steps: &[usize], names: &Names) -> String {
-    let verdict = &judged.verdict;
+pub fn ending(verdict: &Verdict, goal: usize, steps: &[usize], names: &Names) -> String {
     let (goal, step) = (names.goal(goal), verdict.step);
     let fired = match steps.len() {
         0 => "there are no steps".to_string(),
@@ -18,22 +18,24 @@ pub fn ending(judged: &Judged, goal: usize, steps: &[usize], names: &Names) -> S
         10 => format!(
             "step {step}, rule {}, can't fire: {}",
             names.rule(steps[step]),
-            unmet(judged, names)
+            unmet(verdict, names)
         ),
         _ => {
-            format!("{fired}, but goal {goal} is not met in state {step}: {}", unmet(judged, names))
+            format!(
+                "{fired}, but goal {goal} is not met in state {step}: {}",
+                unmet(verdict, names)
+            )
         }
     };
     format!("{}: {found}", judge::name(verdict))
 }
 
 /// The first condition that isn't met. A fact of P isn't in the closure; one of N is.
-fn unmet(judged: &Judged, names: &Names) -> String {
-    let fact = judged.verdict.fact;
-    let how = match judged.round(fact) {
-        None => "missing".to_string(),
-        Some(0) => "in the way, since it is stored".to_string(),
-        Some(round) => format!("in the way, since round {round}"),
+fn unmet(verdict: &Verdict, names: &Names) -> String {
+    let how = match (verdict.kind, verdict.round) {
+        (Kind::Negative, 0) => "in the way, since it is stored".to_string(),
+        (Kind::Negative, round) => format!("in the way since round {round}"),
+        _ => "missing".to_string(),
     };
-    format!("fact {} is {how}", names.fact(fact))
+    format!("fact {} is {how}", names.fact(verdict.fact))
 }

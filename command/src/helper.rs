@@ -3,7 +3,7 @@
 
 use crate::failure::Failure;
 use crate::judge;
-use library::Verdict;
+use library::{Verdict, VALUES};
 use std::io::{self, ErrorKind, Read, Write};
 use std::os::fd::OwnedFd;
 use std::os::unix::net::UnixStream;
@@ -42,7 +42,7 @@ impl Helper {
             self.line.write_all(&(file.len() as u32).to_be_bytes())?;
             self.line.write_all(file)?;
         }
-        let mut values = [0; 8 * 8];
+        let mut values = [0; 8 * VALUES];
         let mut got = 0;
         while got < values.len() {
             let left = until.saturating_duration_since(Instant::now());
@@ -101,17 +101,12 @@ fn receive(input: &mut impl Read) -> io::Result<Vec<u8>> {
     Ok(bytes)
 }
 
-/// A verdict's values on the line, in the order of its fields.
-fn values(v: &Verdict) -> Vec<u8> {
-    let all =
-        [v.number as usize, v.step, v.fact, v.rounds, v.held, v.mark as usize, v.start, v.size];
-    all.iter().flat_map(|value| (*value as u64).to_be_bytes()).collect()
+/// A verdict's values on the line, eight bytes each.
+fn values(verdict: &Verdict) -> Vec<u8> {
+    verdict.values().iter().flat_map(|value| value.to_be_bytes()).collect()
 }
 
-fn verdict(bytes: &[u8; 64]) -> Verdict {
-    let value =
-        |i: usize| bytes[8 * i..8 * i + 8].iter().fold(0, |sum, byte| sum << 8 | *byte as usize);
-    let [number, step, fact, rounds, held, mark, start, size] = std::array::from_fn(value);
-    let (number, mark) = (number as u8, mark as u8);
-    Verdict { number, step, fact, rounds, held, mark, start, size }
+fn verdict(bytes: &[u8; 8 * VALUES]) -> Verdict {
+    let value = |i: usize| bytes[8 * i..][..8].iter().fold(0, |sum, byte| sum << 8 | *byte as u64);
+    Verdict::of(std::array::from_fn(value))
 }

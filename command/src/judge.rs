@@ -3,8 +3,7 @@
 use crate::layout;
 use library::{Verdict, NONE, STATE_BYTES, TABLE_ENTRIES};
 
-/// The refusals of a model and of a trace that have no fault in their bytes.
-const NEGATED: u8 = 8;
+/// The refusal of a trace that has no fault in its bytes.
 const NAME: u8 = 9;
 
 /// The least model: no fact, no clause, no rule, no attack state.
@@ -43,7 +42,7 @@ impl Judged {
 /// Whether a file has the sections and records of a model, by a trace that can't be at fault itself.
 pub fn is_model(file: &[u8]) -> bool {
     let verdict = check(file, &layout::trace(0, &[])).verdict;
-    !is_refusal(&verdict) || verdict.mark == 1 || verdict.number == NEGATED
+    !is_refusal(&verdict) || verdict.mark == 1
 }
 
 /// Whether a file has the section of a trace, by a model that can't be at fault itself.
@@ -55,6 +54,11 @@ pub fn is_trace(file: &[u8]) -> bool {
 /// Whether the files were refused, so that no step was run.
 pub fn is_refusal(verdict: &Verdict) -> bool {
     !matches!(verdict.number, 0 | 10 | 11)
+}
+
+/// The names of the verdicts that there are; number 8 is never given.
+pub fn names() -> impl Iterator<Item = &'static str> {
+    library::NAMES.into_iter().filter(|name| *name != "NEGATED")
 }
 
 pub fn name(verdict: &Verdict) -> &'static str {

@@ -3,6 +3,7 @@
 
 use crate::args::{Args, Known};
 use crate::failure::{unanswered, unusable, Failure};
+use crate::judge;
 use crate::output::{listed, plain, quoted, tell};
 use crate::pairs::{start, Night, Shared};
 use crate::report::Report;
@@ -78,9 +79,9 @@ fn run(args: &Args) -> Result<u8, Failure> {
 
 fn verdict_name(word: &OsStr) -> Result<&'static str, Failure> {
     let upper = word.to_string_lossy().to_uppercase();
-    let known = library::NAMES.into_iter().find(|name| *name == upper);
+    let known = judge::names().find(|name| *name == upper);
     known.ok_or_else(|| {
-        let all = listed(library::NAMES.iter().map(|name| name.to_string()), usize::MAX);
+        let all = listed(judge::names().map(String::from), usize::MAX);
         unusable(format!("there is no verdict {}; the verdicts are {all}", quoted(word)))
     })
 }

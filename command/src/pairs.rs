@@ -5,7 +5,6 @@ use crate::files::{read_model, read_plain, Pair, MODEL_BYTES, TRACE_BYTES};
 use crate::helper::Helper;
 use crate::identity;
 use crate::judge::{self, is_refusal};
-use crate::names::Names;
 use crate::night::Found;
 use crate::output::plain;
 use crate::places::refusal;
@@ -22,7 +21,6 @@ use std::time::{Duration, Instant};
 pub struct Shared {
     pub name: OsString,
     bytes: Vec<u8>,
-    names: Names,
     sum: String,
 }
 
@@ -30,8 +28,7 @@ impl Shared {
     pub fn read(name: &OsStr, is_summed: bool) -> Result<Shared, Failure> {
         let bytes = read_model(name)?;
         let sum = if is_summed { checksum(&bytes, MODEL_BYTES)? } else { String::new() };
-        let names = Names::beside(name, &bytes)?;
-        Ok(Shared { name: name.into(), bytes, names, sum })
+        Ok(Shared { name: name.into(), bytes, sum })
     }
 }
 
@@ -116,15 +113,8 @@ impl Night {
         let Some(verdict) = self.verdict(&pair, helper)? else {
             return Ok(Err(Trouble::NotAnswered));
         };
-        let words = if is_refusal(&verdict) { Some(self.refusal(&verdict, &pair)?) } else { None };
+        let words = is_refusal(&verdict).then(|| refusal(&verdict, &pair));
         Ok(Ok(Answered { verdict, words, sums: self.sums(&pair)? }))
-    }
-
-    fn refusal(&self, verdict: &Verdict, pair: &Pair) -> Result<String, Failure> {
-        Ok(match &self.model {
-            Some(shared) => refusal(verdict, pair, &shared.names),
-            None => refusal(verdict, pair, &Names::beside(&pair.model_name, &pair.model)?),
-        })
     }
 
     /// Both files, the model once for all where it is shared.

@@ -4,7 +4,6 @@
 use crate::files::{Pair, MODEL_BYTES, TRACE_BYTES};
 use crate::judge;
 use crate::layout::{self, lists, records, sections, Kind, List, Model, Piece, Role};
-use crate::names::Names;
 use crate::output::{counted, quoted};
 use library::Verdict;
 use std::ffi::OsStr;
@@ -16,8 +15,8 @@ const BYTES_SHOWN: usize = 16;
 const UNPLACED: &str = "which this command can't place: tell its authors";
 
 /// The refusal of a pair.
-pub fn refusal(verdict: &Verdict, pair: &Pair, names: &Names) -> String {
-    let place = Place { verdict, pair, model: Model::read(&pair.model), names };
+pub fn refusal(verdict: &Verdict, pair: &Pair) -> String {
+    let place = Place { verdict, pair, model: Model::read(&pair.model) };
     let found = place.words().unwrap_or_else(|| UNPLACED.to_string());
     let (word, name, file) = place.file();
     let span = span(file, verdict.start, verdict.size);
@@ -55,7 +54,6 @@ struct Place<'a> {
     verdict: &'a Verdict,
     pair: &'a Pair,
     model: Model,
-    names: &'a Names,
 }
 
 impl Place<'_> {
@@ -96,7 +94,7 @@ impl Place<'_> {
         ))
     }
 
-    /// 4 to 8: the section first.
+    /// 4 to 7: the section first.
     fn in_section(&self) -> Option<String> {
         let (_, _, file) = self.file();
         let roles = if self.verdict.mark == 0 { layout::MODEL } else { layout::TRACE };
@@ -135,11 +133,6 @@ impl Place<'_> {
         let cut = records(section);
         let number = cut.iter().position(|record| record.at == self.verdict.start)?;
         let record = &cut[number];
-        let shown = match role {
-            Role::Rules => self.names.rule(number),
-            Role::Goals => self.names.goal(number),
-            _ => number.to_string(),
-        };
         let found = if !record.is_whole() {
             short(record, section.end(), 2, "its section")
         } else if self.verdict.number == 5 && number >= kind.most {
@@ -147,7 +140,7 @@ impl Place<'_> {
         } else {
             self.in_lists(role, record.bytes)?
         };
-        Some(format!("{} {shown}: {found}", kind.word))
+        Some(format!("{} {number}: {found}", kind.word))
     }
 
     /// Then the list and the number in it.
@@ -170,19 +163,8 @@ impl Place<'_> {
                     list.word, two[0], two[1]
                 ))
             }),
-            8 => self.negated(&cut),
             _ => None,
         }
-    }
-
-    /// NEGATED: the first fact of N that some clause derives.
-    fn negated(&self, cut: &[List]) -> Option<String> {
-        let n = cut.iter().find(|list| list.word == "N")?;
-        n.numbers.iter().find_map(|fact| {
-            let clause = self.model.clauses.iter().position(|c| c[0].numbers[0] == *fact)?;
-            let (fact, why) = (self.names.fact(*fact), "no N may have a fact that is derived");
-            Some(format!("fact {fact} stands in its N and is the head of clause {clause}: {why}"))
-        })
     }
 }
 
@@ -242,10 +224,11 @@ mod tests {
             let [model_name, trace_name] = ["m", "t"].map(Into::into);
             let pair = Pair { model_name, trace_name, model, trace };
             if judge::is_refusal(&verdict) {
-                let words = refusal(&verdict, &pair, &Names::default());
+                let words = refusal(&verdict, &pair);
                 assert!(!words.contains(UNPLACED), "pair {index}: {words}");
             }
         }
-        assert!(seen[2..=9].iter().all(|count| *count > 10), "too few of some number: {seen:?}");
+        let refusals = [2, 3, 4, 5, 6, 7, 9].map(|number| seen[number]);
+        assert!(refusals.iter().all(|count| *count > 10), "too few of some number: {seen:?}");
     }
 }

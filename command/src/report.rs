@@ -12,19 +12,21 @@ use std::sync::mpsc::{Receiver, RecvTimeoutError};
 use std::time::{Duration, Instant};
 
 /// The width of the verdict's line, so that names stand below each other.
-const WIDTH: usize = 48;
+const WIDTH: usize = 72;
 
 /// A pair that takes longer is told with its time.
 const SLOW: Duration = Duration::from_secs(1);
 
-/// The table's columns; those from the verdict to held are the line's.
-const COLUMNS: [&str; 13] = [
+/// The table's columns; those from the verdict to round are the line's.
+const COLUMNS: [&str; 15] = [
     "name",
     "verdict",
     "step",
     "fact",
     "rounds",
     "held",
+    "kind",
+    "round",
     "file",
     "start",
     "size",

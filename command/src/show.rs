@@ -29,11 +29,11 @@ Example:
 fn run(args: &Args) -> Result<u8, Failure> {
     let [name] = operands(args, &COMMAND)?;
     let pair = Pair::of_model(name)?;
-    let names = Names::beside(name, &pair.model)?;
     let verdict = judge::check(&pair.model, &pair.trace).verdict;
     if judge::is_refusal(&verdict) && verdict.mark == 0 {
-        return Err(unanswered(refusal(&verdict, &pair, &names)));
+        return Err(unanswered(refusal(&verdict, &pair)));
     }
+    let names = Names::beside(name, &pair.model)?;
     let model = Model::read(&pair.model);
     let mut output = Output::open()?;
     text(&model, &names).iter().try_for_each(|line| output.line(line))?;

@@ -1,82 +1,262 @@
-/* stack MODEL TRACE: how deep a closing and a check go. Each is run in a thread whose stack was painted before; what is overwritten then,
-   less what an empty thread overwrites, is the call's. Both must stay under 2 KiB. */
-#define _POSIX_C_SOURCE 200809L
+/* How deep each exported function goes into the stack, over the largest legal inputs and every refusal. Each call is
+   run on a stack of its own that was painted before; what is overwritten then, less what an empty function overwrites,
+   is the call's. */
+#define _XOPEN_SOURCE 700
 #include "../include/cantivorex.h"
-#include <pthread.h>
-#include <stdio.h>
-#include <stdlib.h>
+#include "expect.h"
 #include <string.h>
+#include <ucontext.h>
 
-enum { STACK = 1 << 20, PAINT = 0xA5, BOUND = 2048 };
+/* The most bytes that each may take: what was measured, and a tenth. */
+enum { CHECK_LIMIT = 1102, CLOSE_LIMIT = 855, PART_LIMIT = 44 };
 
-static uint8_t model[65536], trace[4096], state[512];
-static size_t model_len, trace_len;
-static uint16_t table[4096];
+enum { STACK = 1 << 20, FACTS = 4096, STORED = 32, HEADS = 64, NEVER = FACTS - 1 };
+
+struct file {
+    uint8_t bytes[65537];
+    size_t len;
+};
+
+static struct file model, trace;
+static uint8_t state[CANTIVOREX_STATE_BYTES], part[65537];
+static uint16_t table[CANTIVOREX_TABLE_ENTRIES];
 static uint64_t out[CANTIVOREX_OUT_ENTRIES];
 
-static void *nothing(void *unused)
+/* What a pair of files is made of, and what the check and the closing answer. */
+struct pair {
+    const char *name;
+    uint8_t check, close;
+    size_t clauses, body, steps, last_rule, goal;
+    void (*spoil)(void);
+};
+
+/* Writing files: two bytes; a length of some bytes, which is filled in at the end; 31 facts in a row and another. */
+static void word(struct file *file, size_t value)
 {
-    return unused;
+    file->bytes[file->len++] = (uint8_t)(value >> 8);
+    file->bytes[file->len++] = (uint8_t)value;
 }
 
-static void *closing(void *unused)
+static size_t begin(struct file *file, size_t width)
 {
-    cantivorex_close(model, model_len, state, 512, table, 4096, out, CANTIVOREX_OUT_ENTRIES);
-    return unused;
+    file->len += width;
+    return file->len;
 }
 
-static void *checking(void *unused)
+static void end(struct file *file, size_t start, size_t width)
 {
-    cantivorex_check(model, model_len, trace, trace_len, state, 512, table, 4096, out, CANTIVOREX_OUT_ENTRIES);
-    return unused;
+    size_t len = file->len - start;
+    for (size_t i = 1; i <= width; i++, len >>= 8)
+        file->bytes[start - i] = (uint8_t)len;
 }
 
-static void stop(const char *why)
+static void list(size_t first, size_t last)
 {
-    fprintf(stderr, "stack: %s\n", why);
-    exit(1);
+    word(&model, 32);
+    for (size_t fact = first; fact < first + 31; fact++)
+        word(&model, fact);
+    word(&model, last);
 }
 
-static size_t read_file(const char *path, uint8_t *to, size_t room)
+/* Bodies of one fact make a chain that starts with fact 0; longer ones have stored facts. */
+static void write_clauses(const struct pair *pair)
 {
-    FILE *file = fopen(path, "rb");
-    if (!file)
-        stop("a file can't be opened");
-    size_t len = fread(to, 1, room, file);
-    fclose(file);
-    return len;
+    size_t section = begin(&model, 4);
+    for (size_t i = 0; i < pair->clauses; i++) {
+        size_t record = begin(&model, 2);
+        word(&model, HEADS + i);
+        for (size_t fact = 0; fact < pair->body; fact++)
+            word(&model, pair->body == 1 && i > 0 ? HEADS + i - 1 : fact);
+        end(&model, record, 2);
+    }
+    end(&model, section, 4);
 }
 
-/* The bytes of a thread's stack that running it overwrites. */
-static size_t depth(void *(*run)(void *))
+/* Three rules, or three attack states, with full lists. The first holds; in the second the last fact of P is missing;
+   in the third the last of N is there, since the last clause gives it. */
+static void write_conditions(const struct pair *pair, int are_rules)
 {
-    void *area;
-    pthread_attr_t how;
-    pthread_t thread;
-    if (posix_memalign(&area, 4096, STACK))
-        stop("no memory for a stack");
-    memset(area, PAINT, STACK);
-    if (pthread_attr_init(&how) || pthread_attr_setstack(&how, area, STACK) || pthread_create(&thread, &how, run, NULL)
-        || pthread_join(thread, NULL))
-        stop("a thread can't be run");
+    size_t section = begin(&model, 4);
+    for (int i = 0; i < 3; i++) {
+        size_t record = begin(&model, 2);
+        list(0, i == 1 ? NEVER : STORED - 1);
+        list(STORED, i == 2 ? HEADS + pair->clauses - 1 : NEVER);
+        if (are_rules)
+            list(0, STORED - 1);
+        end(&model, record, 2);
+    }
+    end(&model, section, 4);
+}
+
+static void write_model(const struct pair *pair)
+{
+    model.bytes[0] = 1;
+    model.len = 1;
+    size_t section = begin(&model, 4);
+    word(&model, FACTS);
+    end(&model, section, 4);
+    section = begin(&model, 4);
+    for (size_t fact = 0; fact < STORED; fact++)
+        word(&model, fact);
+    end(&model, section, 4);
+    write_clauses(pair);
+    write_conditions(pair, 1);
+    write_conditions(pair, 0);
+}
+
+static void write_trace(const struct pair *pair)
+{
+    trace.bytes[0] = 1;
+    trace.len = 1;
+    size_t section = begin(&trace, 4);
+    word(&trace, pair->goal);
+    for (size_t step = 0; step < pair->steps; step++)
+        word(&trace, step + 1 < pair->steps ? 0 : pair->last_rule);
+    end(&trace, section, 4);
+}
+
+/* The refusals: each spoils the files at a place that is judged late. */
+static void make_long(void)
+{
+    model.len = sizeof model.bytes;
+}
+
+static void make_empty(void)
+{
+    trace.len = 0;
+}
+
+static void leave_a_byte(void)
+{
+    model.bytes[model.len++] = 0;
+}
+
+static void take_a_fact_more(void)
+{
+    model.bytes[6] = 1; /* F of 4,097 */
+}
+
+static void end_with_fact_4096(void)
+{
+    model.len -= 2;
+    word(&model, FACTS);
+}
+
+static void end_with_fact_0(void)
+{
+    model.len -= 2;
+    word(&model, 0);
+}
+
+static const struct pair pairs[] = {
+    {"a chain of 4,000 clauses", CANTIVOREX_ATTACK, 0, 4000, 1, 2, 0, 0, NULL},
+    {"1,790 bodies of 16 facts", CANTIVOREX_ATTACK, 0, 1790, 16, 2, 0, 0, NULL},
+    {"1,024 steps", CANTIVOREX_ATTACK, 0, 64, 1, 1024, 0, 0, NULL},
+    {"a fact missing in the last step", CANTIVOREX_BLOCKED, 0, 64, 1, 1024, 1, 0, NULL},
+    {"a fact in the last step's way", CANTIVOREX_BLOCKED, 0, 64, 1, 1024, 2, 0, NULL},
+    {"a fact missing in the goal", CANTIVOREX_NOATTACK, 0, 64, 1, 1024, 0, 1, NULL},
+    {"a fact in the goal's way", CANTIVOREX_NOATTACK, 0, 64, 1, 1024, 0, 2, NULL},
+    {"a model of 65,537 bytes", CANTIVOREX_LONG, CANTIVOREX_LONG, 64, 1, 2, 0, 0, make_long},
+    {"an empty trace", CANTIVOREX_VERSION, 0, 64, 1, 2, 0, 0, make_empty},
+    {"a byte after the model", CANTIVOREX_SHAPE, CANTIVOREX_SHAPE, 1790, 16, 2, 0, 0, leave_a_byte},
+    {"4,097 facts", CANTIVOREX_COUNT, CANTIVOREX_COUNT, 64, 1, 2, 0, 0, take_a_fact_more},
+    {"1,025 steps", CANTIVOREX_COUNT, 0, 64, 1, 1025, 0, 0, NULL},
+    {"fact 4,096 at the end", CANTIVOREX_FACT, CANTIVOREX_FACT, 1790, 16, 2, 0, 0, end_with_fact_4096},
+    {"fact 0 at the end", CANTIVOREX_ORDER, CANTIVOREX_ORDER, 1790, 16, 2, 0, 0, end_with_fact_0},
+    {"rule 3 in the last step", CANTIVOREX_NAME, 0, 64, 1, 1024, 3, 0, NULL},
+    {"goal 3", CANTIVOREX_NAME, 0, 64, 1, 1024, 0, 3, NULL},
+};
+
+static uint8_t answer;
+static size_t room = sizeof state;
+
+static void nothing(void)
+{
+}
+
+static void close_it(void)
+{
+    answer = cantivorex_close(
+        model.bytes, model.len, state, room, table, CANTIVOREX_TABLE_ENTRIES, out, CANTIVOREX_OUT_ENTRIES);
+}
+
+static void check_it(void)
+{
+    answer = cantivorex_check(model.bytes, model.len, trace.bytes, trace.len, state, room, table,
+        CANTIVOREX_TABLE_ENTRIES, out, CANTIVOREX_OUT_ENTRIES);
+}
+
+/* The part that the check found. */
+static void part_of_it(void)
+{
+    cantivorex_part(model.bytes, model.len, trace.bytes, trace.len, (uint8_t)out[CANTIVOREX_OUT_MARK],
+        out[CANTIVOREX_OUT_START], out[CANTIVOREX_OUT_SIZE], part, sizeof part);
+}
+
+/* The bytes of a stack that a function overwrites. */
+static size_t depth(void (*run)(void))
+{
+    static uint8_t stack[STACK];
+    static ucontext_t back, there;
+    memset(stack, JUNK, sizeof stack);
+    getcontext(&there);
+    there.uc_stack.ss_sp = stack;
+    there.uc_stack.ss_size = sizeof stack;
+    there.uc_link = &back;
+    makecontext(&there, run, 0);
+    swapcontext(&back, &there);
     size_t left = 0;
-    while (left < STACK && ((uint8_t *)area)[left] == PAINT)
+    while (left < sizeof stack && stack[left] == JUNK)
         left++;
-    free(area);
-    return STACK - left;
+    return sizeof stack - left;
 }
 
-int main(int argc, char **argv)
+/* The deepest of each function so far. */
+static size_t check_most, close_most, part_most;
+
+static void keep_most(size_t *most, size_t taken)
 {
-    if (argc != 3)
-        stop("usage: stack MODEL TRACE");
-    model_len = read_file(argv[1], model, sizeof model);
-    trace_len = read_file(argv[2], trace, sizeof trace);
-    size_t empty = depth(nothing), close = depth(closing) - empty, check = depth(checking) - empty;
-    if (out[CANTIVOREX_OUT_NUMBER] != CANTIVOREX_ATTACK)
-        stop("the trace was to be an attack, so that every part of the checker runs");
-    printf("deepest stack: closing %zu bytes, checking %zu\n", close, check);
-    int passed = (close < BOUND) + (check < BOUND);
-    printf("%d passed, %d failed\n", passed, 2 - passed);
-    return passed != 2;
+    if (*most < taken)
+        *most = taken;
+}
+
+/* One row: all three functions on the files as they are. */
+static void measure(const char *name, uint64_t check, uint64_t close)
+{
+    size_t empty = depth(nothing);
+    memset(state, 0, sizeof state);
+    memset(state, 0xFF, STORED / 8);
+    size_t closing = depth(close_it) - empty;
+    expect("closing's answer", answer, close);
+    size_t checking = depth(check_it) - empty;
+    expect("the check's answer", answer, check);
+    size_t placing = depth(part_of_it) - empty;
+    printf("%-34s %2llu %8zu %8zu %8zu\n", name, (unsigned long long)check, checking, closing, placing);
+    keep_most(&check_most, checking);
+    keep_most(&close_most, closing);
+    keep_most(&part_most, placing);
+}
+
+static void limit(const char *name, size_t most, size_t allowed)
+{
+    printf("deepest stack of %s: %zu bytes, at most %zu\n", name, most, allowed);
+    expect("within the limit", most <= allowed, 1);
+}
+
+int main(void)
+{
+    printf("%-34s %2s %8s %8s %8s\n", "bytes of stack", "", "check", "close", "part");
+    for (size_t i = 0; i < sizeof pairs / sizeof *pairs; i++) {
+        write_model(&pairs[i]);
+        write_trace(&pairs[i]);
+        if (pairs[i].spoil)
+            pairs[i].spoil();
+        measure(pairs[i].name, pairs[i].check, pairs[i].close);
+    }
+    room = sizeof state - 1;
+    measure("a state of 511 bytes", CANTIVOREX_ROOM, CANTIVOREX_ROOM);
+    limit("cantivorex_check", check_most, CHECK_LIMIT);
+    limit("cantivorex_close", close_most, CLOSE_LIMIT);
+    limit("cantivorex_part", part_most, PART_LIMIT);
+    return summary();
 }

@@ -1,0 +1,54 @@
+/* One state buffer, used again and again and longer than it has to be: a step that is blocked at the end of a trace
+   leaves the state before it, and what lies beyond the state's bytes stays. */
+#include "../include/cantivorex.h"
+#include "expect.h"
+#include <string.h>
+
+/* Facts 0 and 9 at first; 2 is derived from 9. Rule 0 turns 0 into 3. Both other rules would take 3 and 9 away. */
+static const uint8_t model[] = {
+    1,
+    0, 0, 0, 2, 0, 16,                             /* 16 facts */
+    0, 0, 0, 4, 0, 0, 0, 9,                        /* initial facts 0 and 9 */
+    0, 0, 0, 6, 0, 4, 0, 2, 0, 9,                  /* clause: 2 from 9 */
+    0, 0, 0, 42,
+    0, 10, 0, 1, 0, 0, 0, 0, 0, 1, 0, 3,           /* rule 0: P 0; A 3 */
+    0, 12, 0, 3, 0, 3, 0, 9, 0, 15, 0, 0, 0, 0,    /* rule 1: P 3, 9 and 15, which is missing */
+    0, 14, 0, 2, 0, 3, 0, 9, 0, 1, 0, 2, 0, 1, 0, 0, /* rule 2: P 3 and 9; N 2, which is there through 9; A 0 */
+    0, 0, 0, 6, 0, 4, 0, 0, 0, 0,                  /* attack state 0: no conditions */
+};
+
+static uint8_t state[700];
+static uint16_t table[5000];
+
+/* Rule 0 and then another: blocked at step 1, by a fact of a kind. */
+static void blocked_by(uint8_t rule, uint64_t fact, uint64_t kind, uint64_t round)
+{
+    const uint8_t trace[] = {1, 0, 0, 0, 6, 0, 0, 0, 0, 0, rule};
+    uint64_t out[CANTIVOREX_OUT_ENTRIES];
+    uint8_t before[CANTIVOREX_STATE_BYTES] = {0};
+    before[0] = 1 << 3; /* fact 3 */
+    before[1] = 1 << 1; /* fact 9 */
+    cantivorex_safe_check(
+        model, sizeof model, trace, sizeof trace, state, sizeof state, table, 5000, out, CANTIVOREX_OUT_ENTRIES);
+    expect("the last step is blocked", out[CANTIVOREX_OUT_NUMBER], CANTIVOREX_BLOCKED);
+    expect("its number", out[CANTIVOREX_OUT_STEP], 1);
+    expect("by this fact", out[CANTIVOREX_OUT_FACT], fact);
+    expect("of this kind", out[CANTIVOREX_OUT_KIND], kind);
+    expect("from this round", out[CANTIVOREX_OUT_ROUND], round);
+    expect("two facts are held", out[CANTIVOREX_OUT_HELD], 2);
+    expect("the state before the step", memcmp(state, before, sizeof before), 0);
+    expect("the bytes beyond it stay", all(state + 512, sizeof state - 512, JUNK), 1);
+    expect("the round of a stored fact", table[9], 0);
+    expect("the round of a derived fact", table[2], 1);
+    expect("the round of a fact that rule 0 took", table[0], CANTIVOREX_NONE);
+    expect("the entries beyond 4,096 stay", all(table + 4096, sizeof table - 2 * 4096, JUNK), 1);
+}
+
+int main(void)
+{
+    memset(state, JUNK, sizeof state);
+    memset(table, JUNK, sizeof table);
+    blocked_by(1, 15, CANTIVOREX_KIND_POSITIVE, CANTIVOREX_NONE);
+    blocked_by(2, 2, CANTIVOREX_KIND_NEGATIVE, 1);
+    return summary();
+}

@@ -1,11 +1,11 @@
 /* The trace checker for C. Link with libexports.a (`rt staticlib exports` writes it to target/staticlib).
  *
- * Everything is lent: the library keeps no pointer, frees nothing and allocates nothing, and each call stands by itself, so that
- * calls on different buffers may run at the same time. A file is any bytes at all; nothing in one can make a call crash or loop.
- * What a call may write (state, table, out) must overlap no other area of the same call.
+ * Everything is lent: the library keeps no pointer, frees nothing and allocates nothing, and each call stands by itself,
+ * so that calls on different buffers may run at the same time. A file is any bytes at all; nothing in one can make a
+ * call crash or loop. What a call may write (state, table, out) must overlap no other area of the same call.
  *
- * The functions at the bottom, `cantivorex_safe_..`, are the ones to call: they take a null pointer as an area of length 0. The
- * three above them are what the library has, each area as a pointer that is not null and a length.
+ * The functions at the bottom, `cantivorex_safe_..`, are the ones to call: they take a null pointer as an area of length
+ * 0. The three above them are what the library has, each area as a pointer that is not null and a length.
  */
 #ifndef CANTIVOREX_H
 #define CANTIVOREX_H
@@ -65,27 +65,29 @@ enum {
 #define CANTIVOREX_NONE 65535
 
 /* The verdict on a model and a trace: answers its number and writes its ten values to the front of `out`.
- * For 1 to 9 state and table stay as they were. For 0, 10 and 11 the first 512 bytes of `state` hold the last state reached (fact
- * f is the bit of value 2^(f mod 8) in byte f/8) and the first 4,096 entries of `table` its round numbers. What lies beyond stays.
- * With an `out` of fewer than 10 entries the answer is 1 and nothing at all is changed. */
-uint8_t cantivorex_check(const uint8_t *model, size_t model_len, const uint8_t *trace, size_t trace_len, uint8_t *state,
-    size_t state_len, uint16_t *table, size_t table_len, uint64_t *out, size_t out_len);
+ * For 1 to 9 state and table stay as they were. For 0, 10 and 11 the first 512 bytes of `state` hold the last state
+ * reached (fact f is the bit of value 2^(f mod 8) in byte f/8) and the first 4,096 entries of `table` its round numbers.
+ * What lies beyond stays. With an `out` of fewer than 10 entries the answer is 1 and nothing at all is changed. */
+uint8_t cantivorex_check(const uint8_t *model, size_t model_len, const uint8_t *trace, size_t trace_len,
+    uint8_t *state, size_t state_len, uint16_t *table, size_t table_len, uint64_t *out, size_t out_len);
 
-/* Closing by itself, from the state lent: answers 0 and writes the number of rounds to out[0] and the round numbers to the first
- * 4,096 entries of `table`. Otherwise it answers 1 to 7 for what it is lent, or 6 for a state with a fact of F or more, and changes
- * nothing. With an `out` of no entries the answer is 1. */
-uint8_t cantivorex_close(const uint8_t *model, size_t model_len, const uint8_t *state, size_t state_len, uint16_t *table,
-    size_t table_len, uint64_t *out, size_t out_len);
+/* Closing by itself, from the state lent: answers 0 and writes the number of rounds to out[0] and the round numbers to
+ * the first 4,096 entries of `table`. Otherwise it answers 1 to 7 for what it is lent, or 6 for a state with a fact of F
+ * or more, and changes nothing. With an `out` of no entries the answer is 1. */
+uint8_t cantivorex_close(const uint8_t *model, size_t model_len, const uint8_t *state, size_t state_len,
+    uint16_t *table, size_t table_len, uint64_t *out, size_t out_len);
 
-/* The bytes at a place of the file marked (0 the model, 1 the trace), as far as the file has them; for any other mark none.
- * Answers how many they are, and copies them to the front of `out` as far as it has room. Every mark, start and size is fine. */
+/* The bytes at a place of the file marked (0 the model, 1 the trace), as far as the file has them; for any other mark
+ * none. Answers how many they are, and copies them to the front of `out` as far as it has room. Every mark, start and
+ * size is fine. */
 size_t cantivorex_part(const uint8_t *model, size_t model_len, const uint8_t *trace, size_t trace_len, uint8_t mark,
     size_t start, size_t size, uint8_t *out, size_t out_len);
 
-/* The same three, with a null pointer as an area of length 0: a null file is an empty one (VERSION), a null buffer one without
- * room (ROOM). */
-static inline uint8_t cantivorex_safe_check(const uint8_t *model, size_t model_len, const uint8_t *trace, size_t trace_len,
-    uint8_t *state, size_t state_len, uint16_t *table, size_t table_len, uint64_t *out, size_t out_len)
+/* The same three, with a null pointer as an area of length 0: a null file is an empty one (VERSION), a null buffer one
+ * without room (ROOM). */
+static inline uint8_t cantivorex_safe_check(const uint8_t *model, size_t model_len, const uint8_t *trace,
+    size_t trace_len, uint8_t *state, size_t state_len, uint16_t *table, size_t table_len, uint64_t *out,
+    size_t out_len)
 {
     uint64_t nothing = 0; /* an address for an area of length 0, which is never read or written */
     return cantivorex_check(model ? model : (const uint8_t *)&nothing, model ? model_len : 0,
@@ -94,8 +96,8 @@ static inline uint8_t cantivorex_safe_check(const uint8_t *model, size_t model_l
         out ? out_len : 0);
 }
 
-static inline uint8_t cantivorex_safe_close(const uint8_t *model, size_t model_len, const uint8_t *state, size_t state_len,
-    uint16_t *table, size_t table_len, uint64_t *out, size_t out_len)
+static inline uint8_t cantivorex_safe_close(const uint8_t *model, size_t model_len, const uint8_t *state,
+    size_t state_len, uint16_t *table, size_t table_len, uint64_t *out, size_t out_len)
 {
     uint64_t nothing = 0;
     return cantivorex_close(model ? model : (const uint8_t *)&nothing, model ? model_len : 0,
@@ -103,13 +105,13 @@ static inline uint8_t cantivorex_safe_close(const uint8_t *model, size_t model_l
         table ? table_len : 0, out ? out : &nothing, out ? out_len : 0);
 }
 
-static inline size_t cantivorex_safe_part(const uint8_t *model, size_t model_len, const uint8_t *trace, size_t trace_len,
-    uint8_t mark, size_t start, size_t size, uint8_t *out, size_t out_len)
+static inline size_t cantivorex_safe_part(const uint8_t *model, size_t model_len, const uint8_t *trace,
+    size_t trace_len, uint8_t mark, size_t start, size_t size, uint8_t *out, size_t out_len)
 {
     uint64_t nothing = 0;
     return cantivorex_part(model ? model : (const uint8_t *)&nothing, model ? model_len : 0,
-        trace ? trace : (const uint8_t *)&nothing, trace ? trace_len : 0, mark, start, size, out ? out : (uint8_t *)&nothing,
-        out ? out_len : 0);
+        trace ? trace : (const uint8_t *)&nothing, trace ? trace_len : 0, mark, start, size,
+        out ? out : (uint8_t *)&nothing, out ? out_len : 0);
 }
 
 #ifdef __cplusplus

@@ -120,7 +120,8 @@ pub fn check(model: &[u8], trace: &[u8], state: &mut [u8], table: &mut [u16]) ->
     Verdict::of(out)
 }
 
-/// The same as the library has it: the number, and the ten values at the front of `out`; with fewer entries ROOM and no change.
+/// The same as the library has it: the number, and the ten values at the front of `out`; with fewer
+/// entries ROOM and no change.
 pub fn check_into(
     model: &[u8],
     trace: &[u8],
@@ -170,7 +171,8 @@ pub fn close_into(model: &[u8], state: &[u8], table: &mut [u16], out: &mut [u64]
     }
 }
 
-/// Copies the bytes at a place of the file marked to the front of `out` as far as it has room, and answers how many they are.
+/// Copies the bytes at a place of the file marked to the front of `out` as far as it has room, and
+/// answers how many they are.
 pub fn part(
     model: &[u8],
     trace: &[u8],

@@ -2,8 +2,10 @@
 
 use crate::{Verdict, NAMES, NEGATED, NEGATIVE, POSITIVE, ROOM};
 
-/// The unmet conditions: what is counted, and which verdicts count.
-const UNMET: [(&str, fn(&Verdict) -> bool); 4] = [
+/// Whether a verdict counts.
+type Counts = fn(&Verdict) -> bool;
+
+const UNMET: [(&str, Counts); 4] = [
     ("positive", |v| v.kind == POSITIVE),
     ("negative, stored", |v| v.kind == NEGATIVE && v.round == 0),
     ("negative, round 1", |v| v.kind == NEGATIVE && v.round == 1),

@@ -1,4 +1,5 @@
-//! The proved library beside the independent second program: each call is made of both, and all that they answer and leave is compared.
+//! The proved library beside the independent second program: each call is made of both, and all that
+//! they answer and leave is compared.
 
 pub mod plain;
 pub mod watch;

@@ -1,4 +1,5 @@
-//! A plain Rust reader of a model in place, to measure against: the number of 2 to 7, or 0, without lists and without places.
+//! A plain Rust reader of a model in place, to measure against: the number of 2 to 7, or 0, without
+//! lists and without places.
 
 /// The least fault number so far; 0 is none.
 fn worse(a: u8, b: u8) -> u8 {

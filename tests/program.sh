@@ -132,7 +132,9 @@ ssize_t read(int fd, void *to, size_t most) {
 
 ssize_t write(int fd, const void *from, size_t size) {
     static int calls;
-    return fd == 1 && fails("FAIL_WRITE", ++calls) ? -1 : syscall(SYS_write, fd, from, size);
+    int is_end = size == 1 && *(const char *)from == '\n';
+    int is_failure = fd == 1 && (fails("FAIL_WRITE", ++calls) || fails("FAIL_END", is_end));
+    return is_failure ? -1 : syscall(SYS_write, fd, from, size);
 }
 CODE
     gcc -shared -fPIC -o "$tmp/odd.so" "$tmp/odd.c" || { same 'the odd calls are compiled' yes no; return; }
@@ -146,7 +148,7 @@ CODE
     same 'the trace fails midway' 'case.trace: Input/output error' "$(oddly FAIL_READ=18)"
     # the name, " step " and 1 are written; the fourth write is " fact "
     same 'the line fails midway' "BLOCKED step 1the verdict's line: Input/output error" "$(oddly FAIL_WRITE=4)"
-    has 'the line has no end' "round nonethe verdict's line: Input/output error" "$(oddly FAIL_WRITE=14)"
+    has 'the line has no end' "round nonethe verdict's line: Input/output error" "$(oddly FAIL_END=1)"
 }
 
 # sized LABEL NAME FILE ZEROS: the verdict's name with so many zeros behind a file of the case.

@@ -24,10 +24,11 @@ pub fn judge_in(model: &[u8], trace: &[u8], state_len: usize, table_len: usize) 
     if refused {
         assert_eq!((v.step, v.fact, v.rounds, v.held), (0, NONE, 0, 0));
     }
-    // Only an unmet condition has a kind, and only one of N a round, as the table has it.
-    assert_eq!(v.kind != NO_KIND, v.number == BLOCKED || v.number == NOATTACK);
-    let round = if v.kind == NEGATIVE { table[v.fact as usize] } else { NONE };
-    assert_eq!((v.round, v.fact == NONE), (round, v.kind == NO_KIND));
+    // Only an unmet condition has a kind. A fact of P has no round in the table, one of N has.
+    let is_unmet = v.number == BLOCKED || v.number == NOATTACK;
+    let round = if is_unmet { table[v.fact as usize] } else { NONE };
+    let kind = [NO_KIND, if round == NONE { POSITIVE } else { NEGATIVE }][is_unmet as usize];
+    assert_eq!((v.kind, v.round, v.fact == NONE), (kind, round, !is_unmet));
     let (bytes, entries) = if refused { (0, 0) } else { (512, 4_096) };
     assert!(state[bytes..].iter().all(|b| *b == 0xA5));
     assert!(table[entries..].iter().all(|e| *e == 0x5A5A));

@@ -351,6 +351,10 @@ fn many_stored(mut b: Board) -> Files {
     b.files()
 }
 
+fn rule(pos: &[u16], add: &[u16]) -> Rule {
+    Rule { pos: pos.into(), neg: vec![], add: add.into() }
+}
+
 /// A fact goes to and fro, step by step; the last step wins, is blocked, or does not help.
 fn run(mut b: Board, steps: usize) -> Files {
     let [here, there, near, far, won, never] = [0; 6].map(|_| b.one());
@@ -358,7 +362,6 @@ fn run(mut b: Board, steps: usize) -> Files {
     // The two states differ in their rounds, so the sum tells how many of each were reached.
     b.clause(near, &[there]);
     b.clause(far, &[near]);
-    let rule = |pos: &[u16], add: &[u16]| Rule { pos: pos.into(), neg: vec![], add: add.into() };
     let last = [rule(&[], &[won]), rule(&[never], &[]), rule(&[], &[])][b.each(3)].clone();
     b.model.rules = vec![rule(&[here], &[there]), rule(&[there], &[here]), last];
     b.steps = (0..steps as u16).map(|step| step % 2).collect();
@@ -380,16 +383,17 @@ fn long_run(mut b: Board) -> Files {
     run(b, steps)
 }
 
-/// A chain's last fact decides; at times a link is missing.
+/// A chain's last fact decides, wanted or unwanted; at times a link is missing.
 fn chain_of(mut b: Board, length: usize) -> Files {
-    let broken = b.each(4) == 3;
+    let way = b.each(4);
     let links = b.loose(length + 1);
     b.chain(&links);
-    if broken {
+    if way == 3 {
         let at = b.rng.below(b.model.clauses.len());
         b.model.clauses.swap_remove(at);
     }
-    b.aim(&links[links.len() - 1..], &[]);
+    let place = if way == 1 { Place::GoalN } else { Place::GoalP };
+    b.put(place, &links[links.len() - 1..]);
     b.files()
 }
 
@@ -544,7 +548,6 @@ fn in_the_way(mut b: Board) -> Files {
     let links = b.loose(length);
     b.chain(&links);
     let fact = links[[0, 1, 257 + b.rng.below(40), length - 1][at]];
-    let rule = |pos: &[u16], add: &[u16]| Rule { pos: pos.into(), neg: vec![], add: add.into() };
     let denied = |rule: Rule| Rule { neg: vec![fact], ..rule };
     match way {
         0 => b.put(Place::N, &[fact]),

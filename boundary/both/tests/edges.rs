@@ -1,0 +1,312 @@
+//! The edges of document 01: a pair on each side of every bound and one for each fault, through the proved library.
+//! What must come out was worked out by hand: EDGES.md has the reasoning, edges.txt the lines.
+
+use cantivorex::{STATE_BYTES, TABLE_ENTRIES};
+use second::gen::{write_model, write_trace};
+use second::{Attack, Clause, Model, Rule};
+
+type Case = (&'static str, Files);
+
+/// The lists that a pair is written from.
+struct Lists {
+    model: Model,
+    goal: u16,
+    steps: Vec<u16>,
+}
+
+struct Files {
+    model: Vec<u8>,
+    trace: Vec<u8>,
+}
+
+fn plain_lists() -> Lists {
+    let clause = Clause { head: 0, body: vec![0] };
+    let rule = Rule { pos: vec![0], ..Rule::default() };
+    let model = Model {
+        facts: 40,
+        initial: vec![],
+        clauses: vec![clause],
+        rules: vec![rule],
+        attacks: vec![Attack::default()],
+    };
+    Lists { model, goal: 0, steps: vec![0] }
+}
+
+/// The plain pair with its lists changed.
+fn listed(change: impl FnOnce(&mut Lists)) -> Files {
+    let mut lists = plain_lists();
+    change(&mut lists);
+    let trace = write_trace(lists.goal, &lists.steps);
+    Files { model: write_model(&lists.model), trace }
+}
+
+fn in_clause(change: impl FnOnce(&mut Clause)) -> Files {
+    listed(|l| change(&mut l.model.clauses[0]))
+}
+
+fn in_rule(change: impl FnOnce(&mut Rule)) -> Files {
+    listed(|l| change(&mut l.model.rules[0]))
+}
+
+fn in_goal(change: impl FnOnce(&mut Attack)) -> Files {
+    listed(|l| change(&mut l.model.attacks[0]))
+}
+
+fn plain() -> Files {
+    listed(|_| ())
+}
+
+/// Changes to the written bytes.
+impl Files {
+    /// Cut, or filled up with zeros.
+    fn model_of(mut self, size: usize) -> Files {
+        self.model.resize(size, 0);
+        self
+    }
+
+    fn trace_of(mut self, size: usize) -> Files {
+        self.trace.resize(size, 0);
+        self
+    }
+
+    fn model_version(mut self, version: u8) -> Files {
+        self.model[0] = version;
+        self
+    }
+
+    fn trace_version(mut self, version: u8) -> Files {
+        self.trace[0] = version;
+        self
+    }
+
+    /// The model's bytes from one place to another replaced.
+    fn with(mut self, from: usize, to: usize, bytes: &[u8]) -> Files {
+        self.model.splice(from..to, bytes.iter().copied());
+        self
+    }
+
+    fn with_trace(mut self, bytes: &[u8]) -> Files {
+        self.trace = bytes.to_vec();
+        self
+    }
+}
+
+/// So many facts, ascending from the first.
+fn facts(first: u16, count: u16) -> Vec<u16> {
+    (first..first + count).collect()
+}
+
+fn facts_of_a_record() -> Vec<Case> {
+    vec![
+        ("16 body facts", in_clause(|c| c.body = facts(0, 16))),
+        ("17 body facts", in_clause(|c| c.body = facts(0, 17))),
+        ("32 in a rule's P", in_rule(|r| r.pos = facts(0, 32))),
+        ("33 in a rule's P", in_rule(|r| r.pos = facts(0, 33))),
+        ("32 in a rule's N", in_rule(|r| r.neg = facts(1, 32))),
+        ("33 in a rule's N", in_rule(|r| r.neg = facts(1, 33))),
+        ("32 in a rule's A", in_rule(|r| r.add = facts(0, 32))),
+        ("33 in a rule's A", in_rule(|r| r.add = facts(0, 33))),
+        ("32 in an attack state's P", in_goal(|a| a.pos = facts(0, 32))),
+        ("33 in an attack state's P", in_goal(|a| a.pos = facts(0, 33))),
+        ("32 in an attack state's N", in_goal(|a| a.neg = facts(1, 32))),
+        ("33 in an attack state's N", in_goal(|a| a.neg = facts(1, 33))),
+    ]
+}
+
+/// A list's one entry so many times.
+fn repeat<T: Clone>(list: &mut Vec<T>, count: usize) {
+    *list = vec![list[0].clone(); count];
+}
+
+fn records_steps_and_f() -> Vec<Case> {
+    vec![
+        ("4096 clauses", listed(|l| repeat(&mut l.model.clauses, 4_096))),
+        ("4097 clauses", listed(|l| repeat(&mut l.model.clauses, 4_097))),
+        ("2048 rules", listed(|l| repeat(&mut l.model.rules, 2_048))),
+        ("2049 rules", listed(|l| repeat(&mut l.model.rules, 2_049))),
+        ("64 attack states", listed(|l| repeat(&mut l.model.attacks, 64))),
+        ("65 attack states", listed(|l| repeat(&mut l.model.attacks, 65))),
+        ("1024 steps", listed(|l| repeat(&mut l.steps, 1_024))),
+        ("1025 steps", listed(|l| repeat(&mut l.steps, 1_025))),
+        ("F 4096", listed(|l| l.model.facts = 4_096)),
+        ("F 4097", listed(|l| l.model.facts = 4_097)),
+    ]
+}
+
+/// The longest model without a fault.
+fn full(lists: &mut Lists) {
+    lists.model.facts = 4_096;
+    lists.model.initial = facts(0, 4_076);
+    lists.model.clauses[0].body = facts(0, 5);
+    repeat(&mut lists.model.clauses, 4_096);
+}
+
+fn sizes_of_files() -> Vec<Case> {
+    vec![
+        ("a model of 65536 bytes", plain().model_of(65_536)),
+        ("a model of 65537 bytes", plain().model_of(65_537)),
+        ("a trace of 4096 bytes", plain().trace_of(4_096)),
+        ("a trace of 4097 bytes", plain().trace_of(4_097)),
+        ("a full model of 65535 bytes", listed(full)),
+    ]
+}
+
+fn fact_numbers() -> Vec<Case> {
+    vec![
+        ("initial fact F-1", listed(|l| l.model.initial = facts(0, 40))),
+        ("initial fact F", listed(|l| l.model.initial = facts(0, 41))),
+        ("head F-1", in_clause(|c| c.head = 39)),
+        ("head F", in_clause(|c| c.head = 40)),
+        ("fact F-1 in a rule's P", in_rule(|r| r.pos = vec![39])),
+        ("fact F in a rule's P", in_rule(|r| r.pos = vec![40])),
+        ("body fact F-1", in_clause(|c| c.body = vec![39])),
+        ("body fact F", in_clause(|c| c.body = vec![40])),
+        ("fact F-1 in a rule's N", in_rule(|r| r.neg = vec![39])),
+        ("fact F in a rule's N", in_rule(|r| r.neg = vec![40])),
+        ("fact F-1 in a rule's A", in_rule(|r| r.add = vec![39])),
+        ("fact F in a rule's A", in_rule(|r| r.add = vec![40])),
+        ("fact F-1 in an attack state's P", in_goal(|a| a.pos = vec![39])),
+        ("fact F in an attack state's P", in_goal(|a| a.pos = vec![40])),
+        ("fact F-1 in an attack state's N", in_goal(|a| a.neg = vec![39])),
+        ("fact F in an attack state's N", in_goal(|a| a.neg = vec![40])),
+    ]
+}
+
+fn head_in_n(lists: &mut Lists) {
+    lists.model.clauses[0].head = 1;
+    lists.model.rules[0].neg = vec![1];
+}
+
+fn other_faults() -> Vec<Case> {
+    vec![
+        ("no fault", plain()),
+        ("the last byte missing", plain().model_of(44)),
+        ("one byte more", plain().model_of(46)),
+        ("the trace's last byte missing", plain().trace_of(8)),
+        ("version 2", plain().model_version(2)),
+        ("a fact twice in a rule's P", in_rule(|r| r.pos = vec![0, 0])),
+        ("a head in a rule's N", listed(head_in_n)),
+        ("an attack state that is missing", listed(|l| l.goal = 1)),
+        ("a rule that is missing", listed(|l| l.steps = vec![1])),
+    ]
+}
+
+/// 64 attack states, which end at 423, and then some bytes more in their section.
+fn after_64_attack_states(more: &[u8]) -> Files {
+    let length = (64 * 6 + more.len() as u32).to_be_bytes();
+    let files = listed(|l| repeat(&mut l.model.attacks, 64));
+    files.with(35, 39, &length).with(423, 423, more)
+}
+
+fn beyond_the_bound() -> Vec<Case> {
+    let half_a_length = after_64_attack_states(&[0, 4, 0, 0, 0, 0, 0]);
+    let half_a_count = after_64_attack_states(&[0, 3, 0, 0, 0]);
+    let too_long = after_64_attack_states(&[0, 5, 0, 0, 0, 0]);
+    vec![
+        ("a 65th attack state and half a length", half_a_length),
+        ("a 65th attack state without a whole N", half_a_count),
+        ("a 65th attack state's length too long", too_long),
+    ]
+}
+
+fn twice_and_too_large(rule: &mut Rule) {
+    rule.pos = vec![0, 0];
+    rule.add = vec![40];
+}
+
+fn passes_over_a_record() -> Vec<Case> {
+    // P's count stands at 27; behind 33 facts of P and the count of N, that of A stands at 97
+    let cut_off = in_rule(|r| r.pos = facts(0, 33)).with(97, 99, &[0, 1]);
+    vec![
+        ("33 in a rule's P and an A that doesn't fit", cut_off),
+        ("a count of 33 with one fact", plain().with(27, 29, &[0, 33])),
+        ("a count of 32769 with one fact", plain().with(27, 29, &[0x80, 1])),
+        ("a fact twice in a rule's P and fact F in its A", in_rule(twice_and_too_large)),
+    ]
+}
+
+fn too_short() -> Vec<Case> {
+    vec![
+        ("an empty model", plain().model_of(0)),
+        ("an empty trace", plain().trace_of(0)),
+        ("sizes of three bytes", plain().with(1, 7, &[0, 0, 0, 3, 0, 40, 0])),
+        ("a clause of no bytes", plain().with(11, 21, &[0, 0, 0, 2, 0, 0])),
+        ("no attack states' section", plain().model_of(35)),
+        ("one byte of the attack states' length", plain().model_of(36)),
+        ("three bytes of the attack states' length", plain().model_of(38)),
+        ("an empty trace section", plain().with_trace(&[1, 0, 0, 0, 0])),
+        ("a trace section of three bytes", plain().with_trace(&[1, 0, 0, 0, 3, 0, 0, 0])),
+    ]
+}
+
+fn too_many_facts(lists: &mut Lists) {
+    lists.model.facts = 4_097;
+    lists.model.initial = vec![4_097];
+}
+
+fn the_first_of_two() -> Vec<Case> {
+    let many_steps = listed(|l| repeat(&mut l.steps, 1_025)).trace_of(2_058);
+    let long_trace = plain().trace_of(4_097).model_version(2);
+    let newer_trace = plain().trace_version(2).model_of(44);
+    vec![
+        ("F 4097 and initial fact 4097", listed(too_many_facts)),
+        ("1025 steps and a byte more", many_steps),
+        ("a trace of 4097 bytes and a model of version 2", long_trace),
+        ("a trace of version 2 and a model's last byte missing", newer_trace),
+    ]
+}
+
+/// In the order of EDGES.md.
+fn cases() -> Vec<Case> {
+    let groups = [
+        facts_of_a_record,
+        records_steps_and_f,
+        sizes_of_files,
+        fact_numbers,
+        other_faults,
+        beyond_the_bound,
+        passes_over_a_record,
+        too_short,
+        the_first_of_two,
+    ];
+    groups.iter().flat_map(|group| group()).collect()
+}
+
+fn line((label, files): &Case) -> String {
+    let (mut state, mut table) = ([0; STATE_BYTES], [0; TABLE_ENTRIES]);
+    let v = cantivorex::check(&files.model, &files.trace, &mut state, &mut table);
+    match v.number {
+        0 | 10 | 11 => format!("{label}: fine"),
+        number => {
+            format!("{label}: number {number} mark {} start {} size {}", v.mark, v.start, v.size)
+        }
+    }
+}
+
+/// The places in EDGES.md count on these bytes.
+#[test]
+fn the_plain_pair_is_the_one_of_the_page() {
+    let sections = [
+        "00000002 0028",
+        "00000000",
+        "00000006 0004 0000 0000",
+        "0000000A 0008 0001 0000 0000 0000",
+        "00000006 0004 0000 0000",
+    ];
+    let model = format!("01{}", sections.concat()).replace(' ', "");
+    let hex = |bytes: &[u8]| bytes.iter().map(|b| format!("{b:02X}")).collect::<String>();
+    assert_eq!(hex(&plain().model), model);
+    assert_eq!(hex(&plain().trace), "010000000400000000");
+}
+
+#[test]
+fn every_edge_gives_what_was_worked_out_by_hand() {
+    let expected: Vec<&str> = include_str!("edges.txt").lines().collect();
+    let cases = cases();
+    assert_eq!(cases.len(), expected.len(), "the number of lines");
+    let lines = cases.iter().map(line);
+    let pairs = lines.zip(expected).filter(|(got, wanted)| got != wanted);
+    let differences: Vec<String> =
+        pairs.map(|(got, wanted)| format!("{got}; by hand {wanted}")).collect();
+    assert!(differences.is_empty(), "{}", differences.join("\n"));
+}

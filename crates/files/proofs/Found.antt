@@ -173,7 +173,7 @@ pub record-placed : (bytes : List ℕ) (n : ℕ) → n < length (records bytes) 
 record-placed bytes n h =
     let r = getD (records bytes) n [] in
     let is : take (length r) (drop (placeOf n (records bytes)) bytes) ≡ r =
-      rw (← place-record bytes n h) (record-front (drop (placeOf n (records bytes)) bytes)) in
+    rw (← place-record bytes n h) (record-front (drop (placeOf n (records bytes)) bytes)) in
     (is, omega (arith, simp (length-take, length-drop) at (ap length is), place-le bytes n))
 
 -- the section is one record

@@ -56,7 +56,7 @@ module _ (m t : List ℕ) (fine : pairFault m t ≡ none) where
       let known = fine-pair m t fine in
       let section = sectionOf m Goals in
       let there : traceOf t .goal < length (records section) =
-        rw length-map at (trace-goal-known _ _ t (known .trace)) in
+      rw length-map at (trace-goal-known _ _ t (known .trace)) in
       let (is, within) = record-placed section (traceOf t .goal) there in
       let place = placeOf (traceOf t .goal) (records section) in
       (omega (arith, role-ends m (known .shape) Goals), inner m (placeOfRole m Goals) place _ within ∙ is)

@@ -120,7 +120,7 @@ module _ (m t : List ℕ) where
         few =
             let bytes = payload t 1 in
             let counted : length (words bytes) ≤ 1 + 1024 =
-              ltb-false _ _ (not-given _ 5 (all-fine _ bytes (section-fine traceCount t 1 short .1))) in
+            ltb-false _ _ (not-given _ 5 (all-fine _ bytes (section-fine traceCount t 1 short .1))) in
             omega (arith, two-words bytes two)
 
         -- an entry names what the model lacks

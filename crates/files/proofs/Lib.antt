@@ -12,3 +12,4 @@ pub mod ModelCauses
 pub mod TraceCauses
 pub mod Causes
 pub mod Exact
+pub mod Written

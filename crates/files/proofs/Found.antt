@@ -176,6 +176,21 @@ record-placed bytes n h =
     rw (← place-record bytes n h) (record-front (drop (placeOf n (records bytes)) bytes)) in
     (is, omega (arith, simp (length-take, length-drop) at (ap length is), place-le bytes n))
 
+-- A record is as many bytes from its place on as its length says or, where that doesn't fit, "the rest of the section,
+-- from that length on".
+pub record-or-rest : (section : List ℕ) (n : ℕ) → n < length (records section)
+    → ((2 + word (drop (placeOf n (records section)) section) ≤ length (drop (placeOf n (records section)) section))
+    × (getD (records section) n []
+    ≡ take (2 + word (drop (placeOf n (records section)) section)) (drop (placeOf n (records section)) section)))
+    ⊎ ((length (drop (placeOf n (records section)) section) < 2 + word (drop (placeOf n (records section)) section))
+    × (getD (records section) n [] ≡ drop (placeOf n (records section)) section))
+record-or-rest section n h =
+    let here = drop (placeOf n (records section)) section in
+    let is = sym (place-record section n h) in
+    by-test (leb (2 + word here) (length here))
+    (λ e. let fits = leb-true (2 + word here) (length here) e in inl (fits, is ∙ record-fits here fits))
+    (λ e. let short = leb-false (2 + word here) (length here) e in inr (short, is ∙ record-rest here short))
+
 -- the section is one record
 whole-placed : (bytes : List ℕ) (n : ℕ) → n < 1 → Placed bytes (bytes ∷ []) n
 unfolding placeOf

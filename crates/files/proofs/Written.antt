@@ -1,17 +1,18 @@
 -- A record whose shape is right is the bytes of its lists, written out (specs/Written).
 use Prim.Native.Nat.{ℕ, zero, suc, _+_, _*_, _/_, _%_, _≤_, _<_}
 use mathlib.Core.Path.{_≡_, refl, sym, ap, _∙_}
-use mathlib.Core.Logic.{⊎-elim}
+use mathlib.Core.Logic.{_↔_, ⊎-elim}
 use mathlib.Core.Bool.{Bool, true, false, true≢false, cond}
 use mathlib.Core.List.{List, [], _∷_, _++_, flatMap, append-assoc, append-nil}
 use mathlib.Core.Option.{Option, none, some, Option·map, Option·none-ne-some}
 use native.Mathlib.Omega.{arith}
 use lib.Dec.{leb, ltb, eqb}
-use lib.ListN.{length, length-append, take, drop, getD, length-take, length-drop, take-append-drop, List·getD-eq-default}
+use lib.ListN.{length, length-append, take, drop, getD, length-take, length-drop, take-append-drop}
+use lib.ListN.{List·getD-eq-default}
 use lib.Seq.{take-at, drop-at, drop-drop, take-add, length-take-le, getD-drop, getD-take}
-use borrow.Author.Tests.{leb-true, leb-false, ltb-false, eqb-true, eqb-false, ne-eqb}
+use borrow.Author.Tests.{leb-true, leb-false, ltb-false, le-ltb, eqb-true, eqb-false, ne-eqb}
 use Rattle.sets.proofs.Laws.{by-test, below-or-from}
-use Rattle.meaning.specs.Model.{Rule, Goal}
+use Rattle.meaning.specs.Model.{Clause, Rule, Goal}
 use Rattle.records.specs.Words.{word, words, odd}
 use Rattle.records.specs.Records.{cutLists, cutClause, cut, listsOf, listOf}
 use Rattle.records.specs.declared.Kind.{Kind}
@@ -108,7 +109,8 @@ record-written r b e =
     ∙ take-append-drop 2 r
 
 -- lists one after the other
-three-lists : (p n a : List ℕ) → ruleBytes (record { P = p; N = n; A = a }) ≡ recordBytes (flatMap listBytes (p ∷ n ∷ a ∷ []))
+three-lists : (p n a : List ℕ)
+    → ruleBytes (record { P = p; N = n; A = a }) ≡ recordBytes (flatMap listBytes (p ∷ n ∷ a ∷ []))
 unfolding ruleBytes flatMap
 three-lists p n a =
     ap recordBytes
@@ -187,7 +189,7 @@ module _ (r : List ℕ) (b : AllBytes r) where
       let (whole, is) = opened kind.Clause lists e in
       let (even, long) = or-clear (odd (drop 2 r)) (ltb (length (drop 2 r)) 2) (not-none _ _ _ is) in
       let facts : word (drop 2 r) ∷ words (drop 4 r) ≡ words (drop 2 r) =
-        rw (← drop-drop 2 2 r) (sym (words-two (drop 2 r) (ltb-false _ _ long))) in
+      rw (← drop-drop 2 2 r) (sym (words-two (drop 2 r) (ltb-false _ _ long))) in
       ap (λ (l : List ℕ). recordBytes (factBytes l)) facts
       ∙ ap recordBytes (facts-written (drop 2 r) (bytes-drop 2 r b) even) ∙ record-written r b whole
 
@@ -230,10 +232,10 @@ module _ (fs rest : List ℕ) where
   first-read : (k : ℕ) → cutLists (suc k) list-first ≡ Option·map (λ lists. fs ∷ lists) (cutLists k rest)
   first-read k =
       let front : take (2 * length fs) (drop 2 list-first) ≡ factBytes fs =
-        ap (take (2 * length fs)) first-facts ∙ take-at (factBytes fs) rest (2 * length fs) (facts-length fs) in
+      ap (take (2 * length fs)) first-facts ∙ take-at (factBytes fs) rest (2 * length fs) (facts-length fs) in
       let back : drop (2 + 2 * length fs) list-first ≡ rest =
-        sym (drop-drop (2 * length fs) 2 list-first) ∙ ap (drop (2 * length fs)) first-facts
-        ∙ drop-at (factBytes fs) rest (2 * length fs) (facts-length fs) in
+      sym (drop-drop (2 * length fs) 2 list-first) ∙ ap (drop (2 * length fs)) first-facts
+      ∙ drop-at (factBytes fs) rest (2 * length fs) (facts-length fs) in
       cut-next k list-first (omega (arith, first-count, first-length))
       ∙ rw (first-count, front, back, facts-read)
 
@@ -247,3 +249,59 @@ lists-read (fs ∷ lists) = first-read fs (flatMap listBytes lists) (length list
 record-read : (bytes : List ℕ) → length (recordBytes bytes) ≡ 2 + word (recordBytes bytes)
 unfolding recordBytes
 record-read bytes = rw (word-two (length bytes) bytes, length-append) (omega arith)
+
+record-bytes : (bytes : List ℕ) → drop 2 (recordBytes bytes) ≡ bytes
+unfolding recordBytes twoBytes
+record-bytes bytes = refl
+
+-- Its lists are those that were written.
+shape-read : (K : Kind) (lists : List (List ℕ)) → ((bytes : List ℕ) → cut K bytes ≡ cutLists (length lists) bytes)
+    → listsOf K (recordBytes (flatMap listBytes lists)) ≡ some lists
+shape-read K lists kind-is =
+    let bytes = flatMap listBytes lists in
+    lists-cut K (recordBytes bytes) (record-read bytes) ∙ ap (cut K) (record-bytes bytes) ∙ kind-is bytes
+    ∙ lists-read lists
+
+rule-lists : (x : Rule) → listsOf kind.Rule (ruleBytes x) ≡ some (x .P ∷ x .N ∷ x .A ∷ [])
+unfolding cut
+rule-lists x =
+    ap (listsOf kind.Rule) (three-lists (x .P) (x .N) (x .A))
+    ∙ shape-read kind.Rule (x .P ∷ x .N ∷ x .A ∷ []) (λ _. refl)
+
+goal-lists : (x : Goal) → listsOf kind.Goal (goalBytes x) ≡ some (x .P ∷ x .N ∷ [])
+unfolding cut
+goal-lists x = ap (listsOf kind.Goal) (two-lists (x .P) (x .N)) ∙ shape-read kind.Goal (x .P ∷ x .N ∷ []) (λ _. refl)
+
+-- a head and a body
+clause-read : (bytes : List ℕ) (h : ℕ) (body : List ℕ) → odd bytes ≡ false → 2 ≤ length bytes → words bytes ≡ h ∷ body
+    → cut kind.Clause bytes ≡ some ((h ∷ []) ∷ body ∷ [])
+unfolding cut cutClause
+clause-read bytes h body even long is =
+    let two = words-two bytes long in
+    let head : word bytes ≡ h = cc in
+    let rest : words (drop 2 bytes) ≡ body = cc in
+    rw (even, le-ltb _ _ long, head, rest)
+
+clause-lists : (c : Clause) → listsOf kind.Clause (clauseBytes c) ≡ some ((c .head ∷ []) ∷ c .body ∷ [])
+unfolding clauseBytes
+clause-lists c =
+    let bytes = factBytes (c .head ∷ c .body) in
+    let size : length bytes ≡ 2 * suc (length (c .body)) = facts-length (c .head ∷ c .body) in
+    let even : odd bytes ≡ false = odd-is bytes ∙ ne-eqb (length bytes % 2) 1 (λ e. omega arith) in
+    lists-cut kind.Clause (recordBytes bytes) (record-read bytes) ∙ ap (cut kind.Clause) (record-bytes bytes)
+    ∙ clause-read bytes (c .head) (c .body) even (omega arith) (facts-read (c .head ∷ c .body))
+
+-- ---- a record's shape is right exactly if it is a record written
+
+module _ (r : List ℕ) (b : AllBytes r) where
+  pub rule-shape : Cut kind.Rule r ↔ ((x : Rule) × (ruleBytes x ≡ r))
+  unfolding Cut
+  rule-shape = (λ c. (ruleIn r, rule-written r b c), λ (x, e). (_, rw e at (rule-lists x)))
+
+  pub goal-shape : Cut kind.Goal r ↔ ((x : Goal) × (goalBytes x ≡ r))
+  unfolding Cut
+  goal-shape = (λ c. (goalIn r, goal-written r b c), λ (x, e). (_, rw e at (goal-lists x)))
+
+  pub clause-shape : Cut kind.Clause r ↔ ((x : Clause) × (clauseBytes x ≡ r))
+  unfolding Cut
+  clause-shape = (λ c. (clauseOf r, clause-written r b c), λ (x, e). (_, rw e at (clause-lists x)))

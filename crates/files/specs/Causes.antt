@@ -34,8 +34,9 @@ pub data WrongFacts (F : ℕ) (bytes : List ℕ) : ℕ → Type 0 where
   fact : (f : ℕ) → f ∈ words bytes → F ≤ f → WrongFacts F bytes 6
   order : Unordered (words bytes) → WrongFacts F bytes 7
 
--- "a length or count that doesn't fit .. bytes left over": the record isn't its lists; "a bound above passed" by its
--- number or by one of its lists; "a fact number of F or more"; "a list not strictly ascending"
+-- "a length or count that doesn't fit .. bytes left over": the record isn't its lists, written (proofs/Written.antt
+-- has that: `rule-shape`, `goal-shape`, `clause-shape`); "a bound above passed" by its number or by one of its lists;
+-- "a fact number of F or more"; "a list not strictly ascending"
 pub data WrongRecord (K : Kind) (most longest F n : ℕ) (r : List ℕ) : ℕ → Type 0 where
   shape : listsOf K r ≡ none → WrongRecord K most longest F n r 4
   count : most ≤ n → WrongRecord K most longest F n r 5
@@ -91,7 +92,7 @@ modelEnd m = sectionAt m (length roles)
 -- 4 to 7 for the model, "at the first fault in file order", with the bytes at fault: "where a section's length
 -- doesn't fit: the rest of the file, from that length on"; otherwise the record, of whose faults the one with the
 -- smallest number is given; "after the last section: those bytes". A record whose length doesn't fit is the rest of
--- its section (`records`).
+-- its section (`record-or-rest` in proofs/Found.antt).
 pub data ModelCause (m : List ℕ) : ℕ → List ℕ → Type 0 where
   unfit : (r : Role) → ((q : Role) → tag q < tag r → RightSection m q) → (Fits m (placeOfRole m r) → ⊥)
       → ModelCause m 4 (drop (placeOfRole m r) m)

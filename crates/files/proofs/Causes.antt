@@ -26,12 +26,12 @@ use Rattle.files.proofs.Wrong.{wrong-range}
 use Rattle.files.proofs.Traces.{file-then, not-long, fine-pair, trace-goal-known, trace-step-known}
 
 -- a file of the right version starts with 1
-starts : (file : List ℕ) → wrongVersion file ≡ none → Starts file
+pub starts : (file : List ℕ) → wrongVersion file ≡ none → Starts file
 unfolding Starts wrongVersion
 starts [] e = absurd (Option·some-ne-none _ e)
 starts (b ∷ rest) e = let one : b ≡ 1 = eqb-true _ _ (not-false _ (not-given _ _ e)) in (rest, rw one)
 
-starts-byte : (file : List ℕ) → Starts file → 1 ≤ length file
+pub starts-byte : (file : List ℕ) → Starts file → 1 ≤ length file
 unfolding Starts
 starts-byte file (rest, e) = rw e (omega arith)
 
@@ -40,7 +40,7 @@ first-byte : (file : List ℕ) → take (length (take 1 file)) file ≡ take 1 f
 first-byte [] = refl
 first-byte (b ∷ rest) = refl
 
-version-cause : (file : List ℕ) (C : ℕ → List ℕ → Type 0) (f : Fault) → wrongVersion file ≡ some f
+pub version-cause : (file : List ℕ) (C : ℕ → List ℕ → Type 0) (f : Fault) → wrongVersion file ≡ some f
     → ((Starts file → ⊥) → C 3 (take 1 file))
     → Found file C f
 unfolding wrongVersion Starts
@@ -53,7 +53,7 @@ version-cause file C f e c =
       cause = rw (first-byte file) (c (λ (rest, q). other (rw q)));
     })
 
-long-cause : (most : ℕ) (file : List ℕ) (C : ℕ → List ℕ → Type 0) (f : Fault) → tooLong most file ≡ some f
+pub long-cause : (most : ℕ) (file : List ℕ) (C : ℕ → List ℕ → Type 0) (f : Fault) → tooLong most file ≡ some f
     → (most < length file → C 2 file)
     → Found file C f
 unfolding tooLong

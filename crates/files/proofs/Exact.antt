@@ -7,14 +7,19 @@ use mathlib.Core.Option.{Option, none, some}
 use native.Mathlib.Omega.{arith}
 use lib.ListN.{length}
 use Rattle.sets.proofs.Laws.{below-or-from}
+use Rattle.records.specs.declared.Fault.{Fault}
+use Rattle.sections.specs.Sections.{tooLong, wrongVersion}
 use Rattle.sections.specs.declared.Role.{Role}
-use Rattle.files.specs.Files.{Blamed, tag, placeOfRole, traceOf, pairFault}
-use Rattle.files.specs.Causes.{Fits, WrongIn, RightSection, ModelCause, RightModel}
-use Rattle.files.specs.Causes.{RightTrace, TraceCause, RightSizes, RightHeads, Cause, RightPair}
+use Rattle.sections.proofs.Fits.{neither}
+use Rattle.files.specs.Files.{Blamed, tag, placeOfRole, traceOf, modelBytes, modelFault, pairFault}
 use Rattle.files.specs.Files.Blamed.{model, trace}
 use Rattle.files.specs.Answers.{blamedNumber}
-use Rattle.files.proofs.Causes.{pair-cause, right-pair}
-use Rattle.files.proofs.ModelCauses.{tag-role}
+use Rattle.files.specs.Causes.{Fits, WrongIn, RightSection, ModelCause, RightModel, RightTrace, TraceCause}
+use Rattle.files.specs.Causes.{Starts, RightSizes, RightHeads, Cause, RightPair}
+use Rattle.files.proofs.Found.{either-found}
+use Rattle.files.proofs.Traces.{not-long}
+use Rattle.files.proofs.ModelCauses.{right-model, model-cause, tag-role}
+use Rattle.files.proofs.Causes.{starts, starts-byte, long-cause, version-cause, pair-cause, right-pair}
 
 -- ---- right or not
 
@@ -183,3 +188,25 @@ module _ (m t : List ℕ) where
           → (b : Blamed) × (pairFault m t ≡ some b) × (blamedNumber b ≡ k)
       go c none e = absurd (cause-right (right-pair m t e) c)
       go c (some b) e = let (_, _, d) = some-cause b e in (b, e, cause-number d c)
+
+-- ---- a model by itself
+
+-- A model by itself has no fault exactly if it is not over its size, starts with 1 and is right.
+pub model-exactly : (m : List ℕ) → (modelFault m ≡ none) ↔ ((length m ≤ 65536) × Starts m × RightModel m)
+unfolding modelFault
+model-exactly m = (
+  λ e.
+      let (short, rest) = neither (tooLong modelBytes m) _ e in
+      let (version, shape) = neither (wrongVersion m) _ rest in
+      (not-long modelBytes m short, starts m version, right-model m shape),
+  λ (short, first, right). go short first right (modelFault m) refl,
+)
+  where
+    go : length m ≤ 65536 → Starts m → RightModel m → (found : Option Fault) → modelFault m ≡ found
+        → modelFault m ≡ none
+    go short first right none e = e
+    go short first right (some f) e =
+        absurd (⊎-elim (λ e. long-cause modelBytes m (λ _ _. ⊥) f e (λ h. omega arith) .cause)
+        (λ (_, e). ⊎-elim (λ e. version-cause m (λ _ _. ⊥) f e (λ other. other first) .cause)
+        (λ (_, e). model-right right (model-cause m (starts-byte m first) f e .cause))
+        (either-found (wrongVersion m) _ f e)) (either-found (tooLong modelBytes m) _ f e))

@@ -2,7 +2,7 @@
 ghost use mathlib.Core.Path.{_≡_};
 ghost use Prim.Native.Nat.{_+_, _<_, _≤_};
 ghost use mathlib.Core.List.{_∷_};
-ghost use lib.ListN.{length, drop};
+ghost use lib.ListN.{length, take, drop};
 ghost use Rattle.records.specs.Words.{word};
 ghost use Rattle.records.specs.Records.{recordOf, records, placeOf, rows, listCount, cutLists, cutClause};
 ghost use Rattle.records.specs.Records.{bare, judge, firstFault};
@@ -192,6 +192,19 @@ fn lists_number(body: &[u8], kind: Kind, facts: usize, marks: Marks) -> u8
     pick(marks)
 }
 
+// The marks with that of a clause's head, which is a list of one number. The caller has seen that it is there.
+fn mark_head(body: &[u8], facts: usize, marks: Marks) -> Marks
+    requires { ⌜ 2 ≤ length (now body) ⌝ }
+    ensures { λ r. ⌜ Marked (take 2 (now (body .entry))) (record { longest = 1; limit = facts }) marks r ⌝ }
+{
+    let head = word_at(body, 0);
+    Marks {
+        count: marks.count,
+        fact: marks.fact | (facts <= head),
+        order: marks.order,
+    }
+}
+
 // The number for a clause's head and body, after some marks.
 fn clause_number(body: &[u8], facts: usize, marks: Marks) -> u8
     ensures { λ r. ⌜ r ≡ code (pickedOf (rows Kind.Clause facts) marks (cutClause (now (body .entry)))) ⌝ }
@@ -199,7 +212,8 @@ fn clause_number(body: &[u8], facts: usize, marks: Marks) -> u8
     if body.len() < 2 || body.len() % 2 == 1 {
         return 4;
     }
-    let marks = mark_list(&body[..2], row_of(Kind::Clause, 0, facts), marks);
+    // A loop over the one number of the head would take a sixth of the time for short clauses.
+    let marks = mark_head(body, facts, marks);
     let marks = mark_list(&body[2..], row_of(Kind::Clause, 1, facts), marks);
     pick(marks)
 }

@@ -1,10 +1,10 @@
 -- `records::clause_number` meets its contract: the head and the body are two more lists after the marks at the start.
-use mathlib.Core.Path.{_∙_, sym, ap}
+use mathlib.Core.Path.{refl, _∙_, sym, ap}
 use mathlib.Core.List.{[], _∷_}
 use mathlib.Core.Option.{some}
 use mathlib.Core.Logic.{⊎-elim}
 use native.Mathlib.Omega.{arith}
-use lib.ListN.{take, drop, length-take}
+use lib.ListN.{take, drop}
 use denote.Ref.{now}
 use borrow.Author.Tests.{lt-ltb, le-ltb}
 use Rattle.records.specs.Words.{words}
@@ -27,15 +27,8 @@ returns c =
     (λ w. rw (le-ltb _ _ (w .0 .left), w .1 .taken))
     (c .if1 .came))
 
-slice-aggregate-mark-list : tie.Need-slice-aggregate-mark-list
-slice-aggregate-mark-list c = rw length-take (omega arith)
-
-row-of-requires : tie.Need-row-of-requires
-unfolding rows
-row-of-requires c κs = omega arith
-
-mark-list-requires : tie.Need-mark-list-requires
-mark-list-requires c κs = search needs
+mark-head-requires : tie.Need-mark-head-requires
+mark-head-requires c κs = search needs
 
 sub-mark-list : tie.Need-sub-mark-list
 sub-mark-list c = search needs
@@ -46,31 +39,29 @@ part-mark-list-start c = search needs
 part-mark-list-end : tie.Need-part-mark-list-end
 part-mark-list-end c = search needs
 
-row-of-requires-2 : tie.Need-row-of-requires-2
+row-of-requires : tie.Need-row-of-requires
 unfolding rows
-row-of-requires-2 c κs = omega arith
+row-of-requires c κs = omega arith
 
-mark-list-requires-2 : tie.Need-mark-list-requires-2
-mark-list-requires-2 c κs = search needs
+mark-list-requires : tie.Need-mark-list-requires
+mark-list-requires c κs = search needs
 
 pick-requires : tie.Need-pick-requires
 pick-requires c κs = search needs
 
 returns-2 : tie.Need-returns-2
+unfolding rows
 returns-2 c =
-    let tested = c .before .before .before .before .before .before .before in
-    let args = tested .before .before .before .args in
-    let body = now (args .body) in
-    let head = c .before .before .before .before .mark-list in
-    let facts = c .before .mark-list2 in
-    let first = c .before .before .before .before .before .row-of .ensures in
-    let second = c .before .before .row-of2 .ensures in
+    let marked = c .before in
+    let tested = marked .before .before .before .before in
+    let body = now (tested .before .before .before .args .body) in
+    let second = marked .before .row-of .ensures in
     rw (clause-tests, le-ltb _ _ (tested .before .if1 .left), tested .if2 .left)
     (c .pick .ensures
     ∙ ap code
     (sym
-    (picked-more _ _ (take 2 body) first (head .ensures) (some (words (drop 2 body) ∷ []))
-    ∙ picked-more _ _ (drop 2 body) second (rw rest-of at (facts .ensures)) (some [])
+    (picked-more _ _ (take 2 body) refl (marked .before .before .before .mark-head .ensures) (some (words (drop 2 body) ∷ []))
+    ∙ picked-more _ _ (drop 2 body) second (rw rest-of at (marked .mark-list .ensures)) (some [])
     ∙ picked-end _ _)))
 
 pub clause-number-spec : {M : Type 1} → statement M
@@ -78,13 +69,11 @@ clause-number-spec =
     tie.close
     (tie.spec
     returns
-    slice-aggregate-mark-list
-    row-of-requires
-    mark-list-requires
+    mark-head-requires
     sub-mark-list
     part-mark-list-start
     part-mark-list-end
-    row-of-requires-2
-    mark-list-requires-2
+    row-of-requires
+    mark-list-requires
     pick-requires
     returns-2)

@@ -6,10 +6,11 @@ use mathlib.Core.List.{List, _∷_}
 use mathlib.Core.Option.{Option, none, some, Option·none-ne-some}
 use native.Mathlib.Nat.{not-suc-le-zero, le-of-suc-le-suc, suc-add}
 use native.Mathlib.Omega.{arith}
-use lib.Dec.{leb}
+use lib.Dec.{leb, eqb}
 use lib.ListN.{length, drop, replicate}
-use borrow.Author.Tests.{eq-eqb, ne-eqb}
+use borrow.Author.Tests.{eq-eqb, ne-eqb, eqb-true, eqb-false}
 use Rattle.sets.specs.Sets.{any}
+use Rattle.sets.proofs.Laws.{by-test}
 use Rattle.records.specs.Words.{word, ascending}
 use Rattle.records.specs.Records.{given, _orElse_, rows, listCount, cut, listsOf}
 use Rattle.records.specs.Records.{most, tooLong, tooLarge, anyList, judge}
@@ -137,3 +138,9 @@ module _ (K : Kind) (F n : ℕ) (r : List ℕ) where
   passed e =
       let j = judged e in
       rw (j .fill, judge) (rw (j .counted, j .short, j .known, j .ordered))
+
+  -- is as long as its length says
+  pub judged-whole : 0 ≡ code (judge K F n r) → length r ≡ 2 + word r
+  judged-whole e =
+      by-test (eqb (length r) (2 + word r)) (eqb-true _ _)
+      (λ q. absurd (Option·none-ne-some _ (sym (lists-none K r (eqb-false _ _ q)) ∙ judged e .fill)))

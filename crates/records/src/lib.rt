@@ -271,7 +271,8 @@ pub fn first_fault(section: &[u8], kind: Kind, facts: usize) -> Found
                 size: record.len(),
             });
         }
-        at += record.len();
+        // The length itself, which the part's size equals here: the next place then waits for no comparison.
+        at += 2 + word_at(record, 0);
         n += 1;
     }
     Found::Fine(n)

@@ -6,10 +6,11 @@ use native.Mathlib.Omega.{arith}
 use lib.ListN.{length}
 use denote.Ref.{now}
 use borrow.Author.Needs.{needs}
+use Rattle.records.specs.Words.{word}
 use Rattle.records.specs.Records.{records, judge, firstFault}
 use Rattle.records.specs.Answers.{found}
 use Rattle.records.proofs.Sections.{place-after, answerFrom, answer-start, answer-end, answer-fault, answer-next}
-use Rattle.records.proofs.Judging.{refused, passed}
+use Rattle.records.proofs.Judging.{refused, passed, judged-whole}
 use Rattle.records.proofs.first_fault.Statement.{statement}
 use Rattle.records.proofs.first_fault.Tie as tie
 
@@ -47,24 +48,41 @@ further : (c : tie.Else1 Inv-loop μ-loop)
     (at < at + size) × (at + size ≤ length (now (c .before .before .before .before .before .before .args .section)))
 further c = place-after _ _ _ (c .before .before .record-at .ensures) (c .before .before .before .loop-test .taken)
 
+-- the record at hand is whole
+size-is : (c : tie.Else1 Inv-loop μ-loop)
+    → let r = now (c .before .before .record-at .result) in length r ≡ 2 + word r
+size-is c = judged-whole _ _ _ _ (sym (c .if1 .left) ∙ c .before .record-number .ensures)
+
+-- so its length tells the next place
+next-is : (c : tie.After-word-at Inv-loop μ-loop) → 2 + c .word-at .result ≡ length (now (c .before .before .before .record-at .result))
+next-is c = omega (arith, c .word-at .ensures, size-is (c .before))
+
+word-at-requires : tie.Need-word-at-requires Inv-loop μ-loop
+word-at-requires c κs = omega (arith, size-is c)
+
 add-at : tie.Need-add-at Inv-loop μ-loop
-add-at c = omega (arith, further c)
+add-at c = omega (arith, next-is c, further (c .before))
+
+add-at-2 : tie.Need-add-at-2 Inv-loop μ-loop
+add-at-2 c = omega (arith, next-is c, further (c .before))
 
 add-n : tie.Need-add-n Inv-loop μ-loop
-add-n c = omega (arith, further c)
+add-n c = omega (arith, next-is c, further (c .before))
 
 loop-less : tie.Need-loop-less Inv-loop μ-loop
-loop-less c = omega (arith, further c)
+loop-less c = omega (arith, next-is c, further (c .before))
 
 loop-again : tie.Need-loop-again Inv-loop μ-loop
 loop-again c =
-    let loop = c .before .before .before .before .loop in
-    let number = c .before .record-number in (
-      omega (arith, further c),
-      further c .1,
+    let fine = c .before in
+    let loop = fine .before .before .before .before .loop in
+    let number = fine .before .record-number in
+    rw (next-is c) (
+      omega (arith, further fine),
+      further fine .1,
       loop .inv .2
-          ∙ answer-next _ _ (loop .n) (loop .at) _ (c .before .before .record-at .ensures)
-          (c .before .before .before .loop-test .taken) (passed _ _ _ _ (sym (c .if1 .left) ∙ number .ensures)),
+          ∙ answer-next _ _ (loop .n) (loop .at) _ (fine .before .before .record-at .ensures)
+          (fine .before .before .before .loop-test .taken) (passed _ _ _ _ (sym (fine .if1 .left) ∙ number .ensures)),
     )
 
 returns-2 : tie.Need-returns-2 Inv-loop μ-loop
@@ -82,7 +100,9 @@ first-fault-spec =
     record-at-requires
     record-number-requires
     returns
+    word-at-requires
     add-at
+    add-at-2
     add-n
     loop-less
     loop-again

@@ -5,7 +5,7 @@ use native.Mathlib.Omega.{arith}
 use mathlib.Core.Path.{_≡_, refl, sym, _∙_}
 use mathlib.Core.Logic.{_↔_, _⊎_, inl, inr}
 use mathlib.Core.Bool.{Bool, true, false, true≢false, not, _&&_, _||_}
-use mathlib.Core.List.{List, [], _∷_, map, List·Memᴰ·head, List·Memᴰ·tail, Memᴰ·cast}
+use mathlib.Core.List.{List, [], _∷_, List·Memᴰ·head, List·Memᴰ·tail, Memᴰ·cast}
 use lib.ListN.{length, getD}
 use lib.Dec.{T, eqb, ltb, eqb→eq, eqb-refl}
 use borrow.Author.Tests.{ltb-true, ltb-false}
@@ -84,7 +84,8 @@ module _ {ℓ} {A : Type ℓ} (p : A → Bool) where
   pub every-intro : (xs : List A) → ((x : A) → x ∈ xs → T (p x)) → T (every p xs)
   unfolding every
   every-intro [] h = tt
-  every-intro (y ∷ ys) h = both (p y) (every p ys) .1 (h y (List·Memᴰ·head refl), every-intro ys (λ x m. h x (List·Memᴰ·tail m)))
+  every-intro (y ∷ ys) h =
+      both (p y) (every p ys) .1 (h y (List·Memᴰ·head refl), every-intro ys (λ x m. h x (List·Memᴰ·tail m)))
 
   -- Where not every entry of a list passes, there is one that doesn't.
   pub every-out : (xs : List A) → (T (every p xs) → ⊥) → (x : A) × (x ∈ xs) × (T (p x) → ⊥)
@@ -92,13 +93,17 @@ module _ {ℓ} {A : Type ℓ} (p : A → Bool) where
   every-out [] h = absurd (h tt)
   every-out (y ∷ ys) h =
       by-test (p y)
-      (λ e. let (x, m, n) = every-out ys (λ t. h (both (p y) (every p ys) .1 (passes e, t))) in (x, List·Memᴰ·tail m, n))
+      (λ e.
+      let (x, m, n) = every-out ys (λ t. h (both (p y) (every p ys) .1 (passes e, t))) in
+      (x, List·Memᴰ·tail m, n))
       (λ e. (y, List·Memᴰ·head refl, fails e))
 
   -- Where some entry of a list passes, there is one that does.
   pub any-in : (xs : List A) → T (any p xs) → (x : A) × (x ∈ xs) × T (p x)
   unfolding any
-  any-in (y ∷ ys) t = elim (either (p y) (any p ys) .0 t) [ inl h ↦ (y, List·Memᴰ·head refl, h) | inr h ↦ let (x, m, q) = any-in ys h in (x, List·Memᴰ·tail m, q) ]
+  any-in (y ∷ ys) t =
+      elim (either (p y) (any p ys) .0 t)
+      [ inl h ↦ (y, List·Memᴰ·head refl, h) | inr h ↦ let (x, m, q) = any-in ys h in (x, List·Memᴰ·tail m, q) ]
 
   -- Where an entry of a list passes, some entry does.
   pub any-intro : (xs : List A) (x : A) → x ∈ xs → T (p x) → T (any p xs)
@@ -109,7 +114,8 @@ module _ {ℓ} {A : Type ℓ} (p : A → Bool) where
 -- A list's set has a fact exactly if the list names it.
 pub listed-is : (xs : List ℕ) (f : ℕ) → T (listed xs f) ↔ (f ∈ xs)
 unfolding listed
-listed-is xs f = (λ t. let (x, m, e) = any-in (eqb f) xs t in Memᴰ·cast (eqb→eq f x e) m, λ m. any-intro (eqb f) xs f m (eqb-refl f))
+listed-is xs f =
+    (λ t. let (x, m, e) = any-in (eqb f) xs t in Memᴰ·cast (eqb→eq f x e) m, λ m. any-intro (eqb f) xs f m (eqb-refl f))
 
 -- k is at most n, passes where it is below n, and no number before it passes
 abbrev IsFirst : (ℕ → Bool) → ℕ → ℕ → Type 0
@@ -125,7 +131,8 @@ first-facts p (suc n) = go (p 0) refl (first-facts (λ k. p (suc k)) n)
     below e h zero l = e
     below e h (suc r) l = h r (omega arith)
 
-    go : (b : Bool) → p 0 ≡ b → IsFirst (λ k. p (suc k)) n (first (λ k. p (suc k)) n) → IsFirst p (suc n) (elim b as (λ _. ℕ) [ true ↦ zero | false ↦ suc (first (λ k. p (suc k)) n) ])
+    go : (b : Bool) → p 0 ≡ b → IsFirst (λ k. p (suc k)) n (first (λ k. p (suc k)) n)
+        → IsFirst p (suc n) (elim b as (λ _. ℕ) [ true ↦ zero | false ↦ suc (first (λ k. p (suc k)) n) ])
     go true e h = (omega arith, λ _. e, λ r l. absurd (omega arith))
     go false e h = (omega arith, λ l. h .1 (omega arith), below e (h .2))
 

@@ -1,6 +1,6 @@
 -- Laws for code that runs: the steps from one of their states on, states below F, and conditions by their index.
 use Prim.Native.Nat.{ℕ, zero, suc, _+_, _-_, _≤_, _<_}
-use native.Mathlib.Nat.{zero-add, add-zero, add-suc, suc-add, add-assoc, add-sub-of-le, eq-or-lt-of-le}
+use native.Mathlib.Nat.{zero-add, add-zero, add-suc, suc-add, add-assoc, add-sub-of-le}
 use native.Mathlib.Numerals.{add-one}
 use native.Mathlib.Omega.{arith}
 use mathlib.Core.Path.{_≡_, refl, sym, _∙_, ap}
@@ -10,7 +10,7 @@ use mathlib.Core.List.{List, [], _∷_, map, List·Memᴰ·head, List·Memᴰ·t
 use mathlib.Core.Option.{Option, none, some}
 use lib.ListN.{length, getD, drop, drop-of-length-le, length-append, length-map, List·getD-append}
 use lib.Seq.{drop-cons, getD-append-add}
-use Rattle.sets.specs.Sets.{Facts, listed, size, _∈_}
+use Rattle.sets.specs.Sets.{Facts, listed, _∈_}
 use Rattle.meaning.specs.Model.{Rule, Model, Trace, State, ruleOf, start}
 use Rattle.meaning.specs.Rounds.{rounds}
 use Rattle.meaning.specs.Run.{Condition, conditions, find, after}
@@ -113,15 +113,6 @@ pub run-below : (m : Model) (t : Trace) → ((f : ℕ) → f ∈ m .initial → 
     → ((k f : ℕ) → f ∈ ruleOf m k .A → f < m .F) → Below (m .F) (run m t .state .facts)
 unfolding run outcomeOf start
 run-below m t i h = reach-below m (m .F) h (start m) (t .steps) (listed-below (m .F) (m .initial) i)
-
--- Counting a set below F further than F counts nothing more.
-pub size-below : (X : Facts) (F n : ℕ) → F ≤ n → Below F X → size X n ≡ size X F
-unfolding Below size
-size-below X F zero h b = ap (size X) {x = 0} {y = F} (omega arith)
-size-below X F (suc n) h b = elim (eq-or-lt-of-le h) [
-  | inl e ↦ ap (size X) (sym e)
-  | inr l ↦ rw (b n (omega arith)) (zero-add (size X n) ∙ size-below X F n (omega arith) b)
-]
 
 -- ---- conditions by their index
 

@@ -1,9 +1,9 @@
 -- Laws on judging a record: its number from its lists, and its lists from its bytes.
-use Prim.Native.Nat.{ℕ, zero, suc, _+_, _≤_, _<_}
-use mathlib.Core.Path.{_≡_, refl, ap, sym, _∙_}
+use Prim.Native.Nat.{ℕ, zero, suc, _+_, _<_}
+use mathlib.Core.Path.{_≡_, refl, ap, sym}
 use mathlib.Core.Bool.{Bool, true, false, not, _||_, cond, true≢false}
 use mathlib.Core.List.{List, _∷_}
-use mathlib.Core.Option.{Option, none, some, Option·none-ne-some}
+use mathlib.Core.Option.{Option, none, some}
 use native.Mathlib.Nat.{not-suc-le-zero, le-of-suc-le-suc, suc-add}
 use native.Mathlib.Omega.{arith}
 use lib.Dec.{leb, eqb}
@@ -56,28 +56,6 @@ lists-cut K r h = ap (λ (b : Bool). cond b (cut K (drop 2 r)) none) (eq-eqb (le
 pub lists-none : (K : Kind) (r : List ℕ) → (length r ≡ 2 + word r → ⊥) → listsOf K r ≡ none
 unfolding listsOf
 lists-none K r h = ap (λ (b : Bool). cond b (cut K (drop 2 r)) none) (ne-eqb (length r) (2 + word r) h)
-
--- ---- the number of a record
-
--- the number that the tests for 5, 6 and 7 give
-picked-number : (count fact order : Bool) (k : ℕ) → (given count 5 orElse given fact 6 orElse given order 7) ≡ some k
-    → (4 ≤ k) × (k ≤ 7)
-unfolding given _orElse_
-picked-number true fact order k e = let is : 5 ≡ k = cc in omega arith
-picked-number false true order k e = let is : 6 ≡ k = cc in omega arith
-picked-number false false true k e = let is : 7 ≡ k = cc in omega arith
-picked-number false false false k e = absurd (Option·none-ne-some k e)
-
--- a record's number is 4 to 7
-pub judge-number : (K : Kind) (F n : ℕ) (r : List ℕ) (k : ℕ) → judge K F n r ≡ some k → (4 ≤ k) × (k ≤ 7)
-unfolding pickedOf before
-judge-number K F n r k e = go (listsOf K r) (sym (judge-is K F n r) ∙ e)
-  where
-    go : (lists : Option (List (List ℕ))) → pickedOf (rows K F) (before K n) lists ≡ some k → (4 ≤ k) × (k ≤ 7)
-    go none e = let is : 4 ≡ k = cc in omega arith
-    go (some lists) e =
-        picked-number (leb (most K) n || anyList tooLong (rows K F) lists) (anyList tooLarge (rows K F) lists)
-        (any (λ l. not (ascending l)) lists) k e
 
 -- ---- a number as a byte
 

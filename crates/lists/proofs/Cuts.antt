@@ -23,7 +23,8 @@ behind true x e = (refl, e)
 behind {y} false x e = absurd (Option·none-ne-some y e)
 
 -- The lists of a record are those that the bytes after its length are cut into.
-pub body-cut : (K : Kind) (r : List ℕ) (lists : List (List ℕ)) → listsOf K r ≡ some lists → cut K (drop 2 r) ≡ some lists
+pub body-cut : (K : Kind) (r : List ℕ) (lists : List (List ℕ)) → listsOf K r ≡ some lists
+    → cut K (drop 2 r) ≡ some lists
 unfolding listsOf
 body-cut K r lists e = behind (whole r) (cut K (drop 2 r)) e .1
 

@@ -9,7 +9,7 @@ use lib.Dec.{leb, ltb}
 use lib.ListN.{length, drop, replicate}
 use Rattle.sets.specs.Sets.{any}
 use Rattle.records.specs.Words.{word, words}
-use Rattle.records.specs.Records.{rows, listCount, cutLists, cut, listsOf, tooLong, tooLarge, anyList}
+use Rattle.records.specs.Records.{rows, listCount, cut, listsOf, tooLong, tooLarge, anyList}
 use Rattle.records.specs.declared.Row.{Row}
 use Rattle.records.specs.declared.Kind.{Kind}
 use Rattle.records.specs.declared.Kind.the-variants.{Clause, Rule, Goal}

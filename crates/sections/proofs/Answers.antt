@@ -1,6 +1,7 @@
--- Laws on answers: what an answer for a section and for a file's first bytes says of the fault, and the first of several faults.
+-- Laws on answers: what an answer for a section and for a file's first bytes says of the fault, and the first of
+-- several faults.
 use Prim.Native.Nat.{ℕ}
-use mathlib.Core.Path.{_≡_, refl, sym}
+use mathlib.Core.Path.{_≡_, refl}
 use mathlib.Core.Bool.{Bool, true, false, not}
 use mathlib.Core.List.{List}
 use mathlib.Core.Option.{Option, none, some}
@@ -16,17 +17,15 @@ use Rattle.sections.specs.declared.Passed.{Passed}
 -- ---- a section
 
 -- An answer `To` for a section says that nothing is at fault, where the section ends and how many records it has.
-pub passed-to : {r : Passed} (fault : Option Fault) (end count e c : ℕ) → r ≡ passed fault end count → r ≡ Passed.To e c → (fault ≡ none) × (end ≡ e) × (count ≡ c)
+pub passed-to : {r : Passed} (fault : Option Fault) (end count e c : ℕ) → r ≡ passed fault end count → r ≡ Passed.To e c
+    → (fault ≡ none) × (end ≡ e) × (count ≡ c)
 unfolding passed
 passed-to none end count e c is told = (refl, cc, cc)
 passed-to (some f) end count e c is told = let z : _≡_ {A = ℕ} 0 1 = cc in absurd (omega arith)
 
--- So it says how many records.
-pub passed-count : (fault : Option Fault) (end count : ℕ) {e c : ℕ} {r : Passed} → r ≡ passed fault end count → r ≡ Passed.To e c → c ≡ count
-passed-count fault end count is told = sym (passed-to fault end count _ _ is told .2)
-
 -- An answer `Fault` says which fault it is.
-pub passed-fault : {r : Passed} (fault : Option Fault) (end count : ℕ) (f : Fault) → r ≡ passed fault end count → r ≡ Passed.Fault f → fault ≡ some f
+pub passed-fault : {r : Passed} (fault : Option Fault) (end count : ℕ) (f : Fault) → r ≡ passed fault end count
+    → r ≡ Passed.Fault f → fault ≡ some f
 unfolding passed
 passed-fault none end count f is told = let z : _≡_ {A = ℕ} 0 1 = cc in absurd (omega arith)
 passed-fault (some g) end count f is told = cc
@@ -53,18 +52,39 @@ pub record Told (x y : Option Fault) (f g : Fault) (number : ℕ) : Type 0 where
   pub three : number ≡ 3 → (x ≡ none) × (y ≡ some g)
   pub other : (number ≡ 2 → ⊥) → (number ≡ 3 → ⊥) → (x ≡ none) × (y ≡ none)
 
-told : (f g : Fault) → f .number ≡ 2 → g .number ≡ 3 → (a b : Bool) → Told (given a f) (given b g) f g (faultNumber (given a f orElse given b g))
+told : (f g : Fault) → f .number ≡ 2 → g .number ≡ 3 → (a b : Bool)
+    → Told (given a f) (given b g) f g (faultNumber (given a f orElse given b g))
 unfolding given _orElse_ faultNumber
-told f g is-2 is-3 true b = record { two = λ h. refl; not-two = λ n. absurd (n is-2); three = λ h. absurd (omega arith); other = λ n m. absurd (n is-2) }
-told f g is-2 is-3 false true = record { two = λ h. absurd (omega arith); not-two = λ n. refl; three = λ h. (refl, refl); other = λ n m. absurd (m is-3) }
-told f g is-2 is-3 false false = record { two = λ h. absurd (omega arith); not-two = λ n. refl; three = λ h. absurd (omega arith); other = λ n m. (refl, refl) }
+told f g is-2 is-3 true b =
+    record {
+      two = λ h. refl;
+      not-two = λ n. absurd (n is-2);
+      three = λ h. absurd (omega arith);
+      other = λ n m. absurd (n is-2);
+    }
+told f g is-2 is-3 false true =
+    record {
+      two = λ h. absurd (omega arith);
+      not-two = λ n. refl;
+      three = λ h. (refl, refl);
+      other = λ n m. absurd (m is-3);
+    }
+told f g is-2 is-3 false false =
+    record {
+      two = λ h. absurd (omega arith);
+      not-two = λ n. refl;
+      three = λ h. absurd (omega arith);
+      other = λ n m. (refl, refl);
+    }
 
 -- what the number for a file's size and version says: 2 is the whole file, 3 its first byte
 abbrev pub Head : ℕ → List ℕ → ℕ → Type 0
 Head most file number =
-    Told (tooLong most file) (wrongVersion file) (record { number = 2; start = 0; size = length file }) (record { number = 3; start = 0; size = length (take 1 file) }) number
+    Told (tooLong most file) (wrongVersion file) (record { number = 2; start = 0; size = length file })
+    (record { number = 3; start = 0; size = length (take 1 file) }) number
 
 -- The number says that.
-pub head-told : (most : ℕ) (file : List ℕ) {number : ℕ} → number ≡ faultNumber (tooLong most file orElse wrongVersion file) → Head most file number
+pub head-told : (most : ℕ) (file : List ℕ) {number : ℕ}
+    → number ≡ faultNumber (tooLong most file orElse wrongVersion file) → Head most file number
 unfolding tooLong wrongVersion
 head-told most file e = rw e (told _ _ refl refl (ltb most (length file)) (not (eqb (getD file 0 0) 1)))

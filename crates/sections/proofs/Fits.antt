@@ -26,11 +26,13 @@ not-given true x e = absurd (Option·some-ne-none x e)
 not-given false x e = refl
 
 -- A section with no fault fits, and its reader finds nothing.
-pub section-fine : (reader : List ℕ → Option Fault) (file : List ℕ) (at : ℕ) → inSection reader file at ≡ none → (fits file at ≡ true) × (reader (payload file at) ≡ none)
+pub section-fine : (reader : List ℕ → Option Fault) (file : List ℕ) (at : ℕ) → inSection reader file at ≡ none
+    → (fits file at ≡ true) × (reader (payload file at) ≡ none)
 unfolding inSection
 section-fine reader file at e = go (fits file at) (reader (payload file at)) e
   where
-    go : (b : Bool) (found : Option Fault) → cond b (Option·map (moved (at + 4)) found) (some (restFault file at)) ≡ none → (b ≡ true) × (found ≡ none)
+    go : (b : Bool) (found : Option Fault)
+        → cond b (Option·map (moved (at + 4)) found) (some (restFault file at)) ≡ none → (b ≡ true) × (found ≡ none)
     go true none e = (refl, refl)
     go true (some f) e = absurd (Option·some-ne-none _ e)
     go false found e = absurd (Option·some-ne-none _ e)
@@ -43,7 +45,8 @@ nothing-left file at e = ltb-false _ _ (not-given _ _ e)
 -- ---- a section that fits
 
 -- It ends within the file, after its length.
-pub fits-within : (file : List ℕ) (at : ℕ) → fits file at ≡ true → (at + 4 ≤ endAt file at) × (endAt file at ≤ length file)
+pub fits-within : (file : List ℕ) (at : ℕ) → fits file at ≡ true
+    → (at + 4 ≤ endAt file at) × (endAt file at ≤ length file)
 unfolding fits endAt
 fits-within file at e = omega (arith, leb-true, length-drop at file)
 

@@ -1,4 +1,5 @@
--- Laws on one section of a file: the number that its length is, where it ends, what its bytes are, and the answer for them.
+-- Laws on one section of a file: the number that its length is, where it ends, what its bytes are, and the answer for
+-- them.
 use Prim.Native.Nat.{ℕ, suc, _+_, _-_, _*_, _≤_, _<_}
 use mathlib.Core.Path.{_≡_, refl, ap, _∙_, sym}
 use mathlib.Core.Bool.{Bool, true, false, not, cond}
@@ -55,7 +56,8 @@ either-counted (some k) y cx cy e = cx e
 pub sizes-counted : (bytes : List ℕ) → Counted (sizes bytes)
 unfolding sizes
 sizes-counted bytes =
-    either-counted _ _ (given-counted (not (eqb (length bytes) 2)) 4 (lit< tt)) (given-counted (ltb 4096 (word bytes)) 5 (lit< tt))
+    either-counted _ _ (given-counted (not (eqb (length bytes) 2)) 4 (lit< tt))
+    (given-counted (ltb 4096 (word bytes)) 5 (lit< tt))
 
 -- and those for bare numbers.
 pub bare-counted : (F : ℕ) (bytes : List ℕ) → Counted (bare F bytes)
@@ -76,12 +78,15 @@ whole-fault (some k) bytes {byte} counted e = rw (ne-eqb byte 0 (λ z. Option·s
 
 module _ (refuses : ℕ → List ℕ → Option ℕ) where
   -- The first record at fault, from record n on, stands within the records.
-  first-within : (n at : ℕ) (rs : List (List ℕ)) (f : Fault) → firstFrom refuses n at rs ≡ some f → f .start + f .size ≤ at + placeOf (length rs) rs
+  first-within : (n at : ℕ) (rs : List (List ℕ)) (f : Fault) → firstFrom refuses n at rs ≡ some f
+      → f .start + f .size ≤ at + placeOf (length rs) rs
   unfolding firstFrom placeOf
   first-within n at [] f e = absurd (Option·none-ne-some f e)
   first-within n at (r ∷ rs) f e = go (refuses n r) refl (first-within (suc n) (at + length r) rs f)
     where
-      go : (number : Option ℕ) → refuses n r ≡ number → (firstFrom refuses (suc n) (at + length r) rs ≡ some f → f .start + f .size ≤ at + length r + placeOf (length rs) rs)
+      go : (number : Option ℕ) → refuses n r ≡ number
+          → (firstFrom refuses (suc n) (at + length r) rs ≡ some f
+          → f .start + f .size ≤ at + length r + placeOf (length rs) rs)
           → f .start + f .size ≤ at + (length r + placeOf (length rs) rs)
       go none h later = omega (arith, later (sym (first-later refuses n at r rs h) ∙ e))
       go (some k) h later =
@@ -91,12 +96,14 @@ module _ (refuses : ℕ → List ℕ → Option ℕ) where
           omega arith
 
   -- So it does in its section.
-  fault-within : (section : List ℕ) (f : Fault) → firstFault refuses section ≡ some f → f .start + f .size ≤ length section
+  fault-within : (section : List ℕ) (f : Fault) → firstFault refuses section ≡ some f
+      → f .start + f .size ≤ length section
   unfolding firstFault
   fault-within section f e = omega (arith, first-within 0 0 (records section) f e, records-sum section)
 
 -- A fault for all of some bytes lies within them.
-all-within : (number : Option ℕ) (bytes : List ℕ) (f : Fault) → allOf number bytes ≡ some f → f .start + f .size ≤ length bytes
+all-within : (number : Option ℕ) (bytes : List ℕ) (f : Fault) → allOf number bytes ≡ some f
+    → f .start + f .size ≤ length bytes
 unfolding allOf
 all-within none bytes f e = absurd (Option·none-ne-some f e)
 all-within (some k) bytes f e =
@@ -136,7 +143,8 @@ module _ (file : List ℕ) (at : ℕ) where
 
   -- A section whose length fits ends within the file.
   pub fit-ended : fits file at ≡ true → Ended file at (endAt file at)
-  fit-ended fit = let (start, within) = fits-within file at fit in record { fit = fit; is = refl; start = start; within = within }
+  fit-ended fit =
+      let (start, within) = fits-within file at fit in record { fit = fit; is = refl; start = start; within = within }
 
   -- An end of 0 says that the length doesn't fit.
   pub no-end : (end : ℕ) → end ≡ cond (fits file at) (endAt file at) 0 → end ≡ 0 → fits file at ≡ false
@@ -166,27 +174,33 @@ module _ (file : List ℕ) (at : ℕ) where
   ended-bytes end s = rw (s .is) (payload-part file at)
 
   -- A section whose length doesn't fit is at fault there, whatever its reader would find.
-  pub unfit-answer : (reader : List ℕ → Option Fault) (end count : ℕ) {e : ℕ} {r : Passed} → e ≡ cond (fits file at) (endAt file at) 0 → e ≡ 0 → r ≡ passed (some (restFault file at)) 0 0
+  pub unfit-answer : (reader : List ℕ → Option Fault) (end count : ℕ) {e : ℕ} {r : Passed}
+      → e ≡ cond (fits file at) (endAt file at) 0 → e ≡ 0 → r ≡ passed (some (restFault file at)) 0 0
       → r ≡ passed (inSection reader file at) end count
   unfolding passed inSection
   unfit-answer reader end count found none-there rest = rest ∙ rw (no-end _ found none-there)
 
   -- Of any other the reader's fault tells, at its place in the file.
-  pub fit-fault : (reader : List ℕ → Option Fault) → fits file at ≡ true → inSection reader file at ≡ Option·map (moved (at + 4)) (reader (payload file at))
+  pub fit-fault : (reader : List ℕ → Option Fault) → fits file at ≡ true
+      → inSection reader file at ≡ Option·map (moved (at + 4)) (reader (payload file at))
   unfolding inSection
   fit-fault reader fit = rw fit
 
   -- A section in which the reader finds nothing.
-  pub fine-answer : (reader : List ℕ → Option Fault) (end count : ℕ) → Ended file at end → reader (payload file at) ≡ none → Passed.To end count ≡ passed (inSection reader file at) (endAt file at) count
+  pub fine-answer : (reader : List ℕ → Option Fault) (end count : ℕ) → Ended file at end
+      → reader (payload file at) ≡ none → Passed.To end count ≡ passed (inSection reader file at) (endAt file at) count
   unfolding passed
   fine-answer reader end count s e = rw (fit-fault reader (s .fit), e, s .is)
 
   -- A section in which it finds a fault.
-  pub fault-answer : (reader : List ℕ → Option Fault) (end count : ℕ) (f : Fault) → Ended file at end → reader (payload file at) ≡ some f
+  pub fault-answer : (reader : List ℕ → Option Fault) (end count : ℕ) (f : Fault) → Ended file at end
+      → reader (payload file at) ≡ some f
       → Passed.Fault (moved (at + 4) f) ≡ passed (inSection reader file at) (endAt file at) count
   unfolding passed moved
   fault-answer reader end count f s e = rw (fit-fault reader (s .fit), e)
 
   -- There are as many bytes as the length says.
   pub ended-size : (end : ℕ) → Ended file at end → length (payload file at) ≡ end - (at + 4)
-  ended-size end s = ap length (sym (ended-bytes end s)) ∙ length-take-le (end - (at + 4)) (drop (at + 4) file) (rw length-drop (omega (arith, s .within)))
+  ended-size end s =
+      ap length (sym (ended-bytes end s))
+      ∙ length-take-le (end - (at + 4)) (drop (at + 4) file) (rw length-drop (omega (arith, s .within)))

@@ -1,5 +1,5 @@
--- Sections of a file: where each stands, what it holds, and its first fault; a file's size and version (document 01, "File layouts", "Bounds" and
--- "the bytes at fault").
+-- Sections of a file: where each stands, what it holds, and its first fault; a file's size and version (document 01,
+-- "File layouts", "Bounds" and "the bytes at fault").
 use Prim.Native.Nat.{ℕ, zero, suc, _+_, _-_, _*_}
 use mathlib.Core.Bool.{Bool, not, cond}
 use mathlib.Core.List.{List}
@@ -46,10 +46,12 @@ restFault file at = record { number = 4; start = at; size = length file - at }
 unfoldable pub moved : ℕ → Fault → Fault
 moved by f = record { number = f .number; start = by + f .start; size = f .size }
 
--- "section lengths being judged when they are reached": the section's fault, the rest of the file where its length doesn't fit, else what its reader finds
+-- "section lengths being judged when they are reached": the section's fault, the rest of the file where its length
+-- doesn't fit, else what its reader finds
 unfoldable pub inSection : (List ℕ → Option Fault) → List ℕ → ℕ → Option Fault
 unfolding fits payload restFault moved
-inSection reader file at = cond (fits file at) (Option·map (moved (at + 4)) (reader (payload file at))) (some (restFault file at))
+inSection reader file at =
+    cond (fits file at) (Option·map (moved (at + 4)) (reader (payload file at))) (some (restFault file at))
 
 -- "After the last section: those bytes."
 unfoldable pub leftOver : List ℕ → ℕ → Option Fault
@@ -77,7 +79,8 @@ reader Clauses F bytes = firstFault (judge kind.Clause F) bytes
 reader Rules F bytes = firstFault (judge kind.Rule F) bytes
 reader Goals F bytes = firstFault (judge kind.Goal F) bytes
 
--- "Records are numbered from 0.": how many a section of the role has; sizes and initial facts "count as one record each" and have none
+-- "Records are numbered from 0.": how many a section of the role has; sizes and initial facts "count as one record
+-- each" and have none
 unfoldable pub entries : Role → List ℕ → ℕ
 unfolding records
 entries Sizes bytes = 0

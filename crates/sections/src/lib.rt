@@ -1,4 +1,5 @@
-// One section of a file: its length, and the answer for its bytes by the section's role. head: a file's size and version.
+// One section of a file: its length, and the answer for its bytes by the section's role. head: a file's size and
+// version.
 ghost use mathlib.Core.Path.{_≡_};
 ghost use mathlib.Core.Bool.{not, cond};
 ghost use mathlib.Core.Option.{some};
@@ -7,7 +8,8 @@ ghost use lib.Dec.{eqb};
 ghost use lib.ListN.{length, drop};
 ghost use Rattle.records.specs.Records.{given};
 ghost use Rattle.records.specs.Answers.{code, found};
-ghost use Rattle.sections.specs.Sections.{long, endAt, fits, payload, inSection, restFault, moved, sizes, reader, entries};
+ghost use Rattle.sections.specs.Sections.{long, endAt, fits, payload, inSection, restFault, moved, sizes};
+ghost use Rattle.sections.specs.Sections.{reader, entries};
 ghost use Rattle.sections.specs.Answers.{passed};
 
 pub mod head;
@@ -71,7 +73,8 @@ pub fn rest_fault(file: &[u8], at: usize) -> Passed
     })
 }
 
-// A fault found in a part of the file from `by` on, at its place in the file. The caller has seen that the place is in a file.
+// A fault found in a part of the file from `by` on, at its place in the file. The caller has seen that the place is in
+// a file.
 fn move_fault(fault: Fault, by: usize) -> Fault
     requires { ⌜ by + fault .start < 18446744073709551616 ⌝ }
     ensures { λ r. ⌜ r ≡ moved by fault ⌝ }

@@ -1,4 +1,5 @@
--- `sections::judge_section` meets its contract: the section doesn't fit, or what is found in its bytes stands at its place in the file.
+-- `sections::judge_section` meets its contract: the section doesn't fit, or what is found in its bytes stands at its
+-- place in the file.
 use Prim.Native.Nat.{ℕ}
 use mathlib.Core.Path.{_≡_, _∙_, sym}
 use mathlib.Core.List.{List}
@@ -9,14 +10,16 @@ use Rattle.records.specs.declared.Fault.{Fault}
 use Rattle.records.specs.Answers.{found}
 use Rattle.records.proofs.Laws.{found-fine, found-fault}
 use Rattle.sections.specs.Sections.{payload, reader, entries}
-use Rattle.sections.proofs.Parts.{Ended, some-end, ended-bytes, ended-size, unfit-answer, fine-answer, fault-answer, reader-within}
+use Rattle.sections.proofs.Parts.{Ended, some-end, ended-bytes, ended-size, unfit-answer, fine-answer}
+use Rattle.sections.proofs.Parts.{fault-answer, reader-within}
 use borrow.Author.Needs.{needs}
 use Rattle.sections.proofs.judge_section.Statement.{statement}
 use Rattle.sections.proofs.judge_section.Tie as tie
 
 -- where the section ends, once its length is known to fit
 ended : (c : tie.Else1)
-    → Ended (now (c .before .before .before .args .file)) (c .before .before .before .args .at) (c .before .section-end .result)
+    → Ended (now (c .before .before .before .args .file)) (c .before .before .before .args .at)
+    (c .before .section-end .result)
 ended c = some-end _ _ _ (c .before .section-end .ensures) (c .if1 .left)
 
 -- the section's bytes
@@ -44,7 +47,8 @@ rest-fault-requires : tie.Need-rest-fault-requires
 rest-fault-requires c κs = search needs
 
 returns : tie.Need-returns
-returns c = unfit-answer _ _ _ _ _ (c .before .before .section-end .ensures) (c .before .if1 .taken) (c .rest-fault .ensures)
+returns c =
+    unfit-answer _ _ _ _ _ (c .before .before .section-end .ensures) (c .before .if1 .taken) (c .rest-fault .ensures)
 
 add-by : tie.Need-add-by
 add-by c = omega (arith, ended c)
@@ -71,7 +75,12 @@ move-fault-requires : tie.Need-move-fault-requires
 move-fault-requires c κs =
     let test = c .before .before .before .before .before in
     let args = test .before .before .before .args in
-    omega (arith, ended test, ended-size _ _ _ (ended test), reader-within (args .role) (args .facts) _ _ (read-fault (c .before)))
+    omega (
+      arith,
+      ended test,
+      ended-size _ _ _ (ended test),
+      reader-within (args .role) (args .facts) _ _ (read-fault (c .before)),
+    )
 
 returns-2 : tie.Need-returns-2
 returns-2 c =
@@ -81,8 +90,8 @@ returns-2 c =
 
 returns-3 : tie.Need-returns-3
 returns-3 c =
-    rw (c .move-fault .ensures)
-    (fault-answer _ _ _ _ _ _ (ended (c .before .before .before .before .before .before)) (read-fault (c .before .before)))
+    let test = c .before .before .before .before .before .before in
+    rw (c .move-fault .ensures) (fault-answer _ _ _ _ _ _ (ended test) (read-fault (c .before .before)))
 
 pub judge-section-spec : {M : Type 1} → statement M
 judge-section-spec =

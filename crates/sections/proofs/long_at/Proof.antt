@@ -23,8 +23,10 @@ small c =
     let known = c .before .before in
     let file = now (known .before .args .file) in
     let at = known .before .args .at in
-    let byte = known .shared-slice-known .given in
-    (rw (c .before .word-at .ensures) (word-small file at byte), rw (c .word-at2 .ensures) (word-small file (at + 2) byte))
+    let byte = known .shared-slice-known .given in (
+      rw (c .before .word-at .ensures) (word-small file at byte),
+      rw (c .word-at2 .ensures) (word-small file (at + 2) byte),
+    )
 
 mul-result : tie.Need-mul-result
 mul-result c = omega (arith, small c)

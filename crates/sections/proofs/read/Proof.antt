@@ -48,14 +48,23 @@ returns : tie.Need-returns
 unfolding reader entries
 returns c =
     let bytes = now (c .before .before .before .before .before .args .bytes) in
-    c .whole .ensures ∙ rw (c .before .before .enum-told .given .1, whole-fault (sizes bytes) bytes (sizes-counted bytes) (c .before .sizes-number .ensures))
+    c .whole .ensures
+    ∙ rw (
+      c .before .before .enum-told .given .1,
+      whole-fault (sizes bytes) bytes (sizes-counted bytes) (c .before .sizes-number .ensures),
+    )
 
 returns-2 : tie.Need-returns-2
 unfolding reader entries
 returns-2 c =
     let args = c .before .before .before .before .before .args in
     let bytes = now (args .bytes) in
-    c .whole2 .ensures ∙ rw (c .before .before .enum-told2 .given .1, whole-fault (bare (args .facts) bytes) bytes (bare-counted (args .facts) bytes) (c .before .numbers-number .ensures))
+    c .whole2 .ensures
+    ∙ rw (
+      c .before .before .enum-told2 .given .1,
+      whole-fault (bare (args .facts) bytes) bytes (bare-counted (args .facts) bytes)
+          (c .before .numbers-number .ensures),
+    )
 
 returns-3 : tie.Need-returns-3
 unfolding reader entries

@@ -1,4 +1,5 @@
--- `sections::section_end` meets its contract: its three tests are those of `fits`, and what they pass ends within the file.
+-- `sections::section_end` meets its contract: its three tests are those of `fits`, and what they pass ends within the
+-- file.
 use mathlib.Core.Logic.{⊎-elim}
 use native.Mathlib.Omega.{arith}
 use denote.Ref.{now}
@@ -15,7 +16,8 @@ sub-if2 c = search needs
 returns : tie.Need-returns
 returns c =
     let args = c .before .before .args in
-    rw (beyond-fits (now (args .file)) (args .at) (⊎-elim (λ w. omega arith) (λ w. omega (arith, ltb-true)) (c .if1 .came)))
+    rw (beyond-fits (now (args .file)) (args .at)
+    (⊎-elim (λ w. omega arith) (λ w. omega (arith, ltb-true)) (c .if1 .came)))
 
 add-start : tie.Need-add-start
 add-start c = omega (arith, ltb-false)
@@ -38,7 +40,9 @@ returns-3 : tie.Need-returns-3
 unfolding endAt
 returns-3 c =
     let args = c .before .before .before .before .before .args in
-    rw (within-fits (now (args .file)) (args .at) (omega (arith, ltb-false, c .before .long-at .ensures))) (omega (arith, c .before .long-at .ensures))
+    rw (within-fits (now (args .file)) (args .at) (omega (arith, ltb-false, c .before .long-at .ensures)))
+    (omega (arith, c .before .long-at .ensures))
 
 pub section-end-spec : {M : Type 1} → statement M
-section-end-spec = tie.close (tie.spec sub-if2 returns add-start long-at-requires sub-if3 returns-2 add-result returns-3)
+section-end-spec =
+    tie.close (tie.spec sub-if2 returns add-start long-at-requires sub-if3 returns-2 add-result returns-3)

@@ -15,11 +15,13 @@ word-at-requires c κs = search needs
 
 returns-2 : tie.Need-returns-2
 unfolding code sizes
-returns-2 c = rw (eq-eqb _ _ (c .before .before .if1 .left), lt-ltb _ _ (rw (c .before .word-at .ensures) at (c .if2 .taken)))
+returns-2 c =
+    rw (eq-eqb _ _ (c .before .before .if1 .left), lt-ltb _ _ (rw (c .before .word-at .ensures) at (c .if2 .taken)))
 
 returns-3 : tie.Need-returns-3
 unfolding code sizes
-returns-3 c = rw (eq-eqb _ _ (c .before .before .if1 .left), le-ltb _ _ (rw (c .before .word-at .ensures) at (c .if2 .left)))
+returns-3 c =
+    rw (eq-eqb _ _ (c .before .before .if1 .left), le-ltb _ _ (rw (c .before .word-at .ensures) at (c .if2 .left)))
 
 pub sizes-number-spec : {M : Type 1} → statement M
 sizes-number-spec = tie.close (tie.spec returns word-at-requires returns-2 returns-3)

@@ -7,7 +7,8 @@ use Rattle.records.specs.declared.Fault.{Fault}
 use Rattle.sections.proofs.head.version_fault.Statement.{statement}
 use Rattle.sections.proofs.head.version_fault.Tie as tie
 
-of-size : {n m : ℕ} → n ≡ m → _≡_ {A = Fault} (record { number = 3; start = 0; size = n }) (record { number = 3; start = 0; size = m })
+of-size : {n m : ℕ} → n ≡ m
+    → _≡_ {A = Fault} (record { number = 3; start = 0; size = n }) (record { number = 3; start = 0; size = m })
 of-size e = λ i. record { number = 3; start = 0; size = e i }
 
 returns : tie.Need-returns

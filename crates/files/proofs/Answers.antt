@@ -15,13 +15,15 @@ use Rattle.files.specs.declared.Part.{Part}
 -- ---- a model
 
 -- An answer `Fine` for a model says that nothing is at fault, and what its counts are.
-pub judged-fine : {r : Judged} (fault : Option Fault) (n k : Counts) → r ≡ judged fault n → r ≡ Judged.Fine k → (fault ≡ none) × (n ≡ k)
+pub judged-fine : {r : Judged} (fault : Option Fault) (n k : Counts) → r ≡ judged fault n → r ≡ Judged.Fine k
+    → (fault ≡ none) × (n ≡ k)
 unfolding judged
 judged-fine none n k is told = (refl, cc)
 judged-fine (some f) n k is told = let z : _≡_ {A = ℕ} 0 1 = cc in absurd (omega arith)
 
 -- An answer `Fault` says which fault it is.
-pub judged-fault : {r : Judged} (fault : Option Fault) (n : Counts) (f : Fault) → r ≡ judged fault n → r ≡ Judged.Fault f → fault ≡ some f
+pub judged-fault : {r : Judged} (fault : Option Fault) (n : Counts) (f : Fault) → r ≡ judged fault n
+    → r ≡ Judged.Fault f → fault ≡ some f
 unfolding judged
 judged-fault none n f is told = let z : _≡_ {A = ℕ} 0 1 = cc in absurd (omega arith)
 judged-fault (some g) n f is told = cc
@@ -50,22 +52,26 @@ unfolding headed
 headed-fine none is told = refl
 headed-fine (some b) is told = let z : _≡_ {A = ℕ} 0 1 = cc in absurd (omega arith)
 
-pub headed-fault : {r : Heads} (fault : Option Blamed) (k : ℕ) (p : Part) → r ≡ headed fault → r ≡ Heads.Fault k p → Blames fault k p
+pub headed-fault : {r : Heads} (fault : Option Blamed) (k : ℕ) (p : Part) → r ≡ headed fault → r ≡ Heads.Fault k p
+    → Blames fault k p
 unfolding headed
 headed-fault none k p is told = let z : _≡_ {A = ℕ} 0 1 = cc in absurd (omega arith)
 headed-fault (some b) k p is told = record { whose = b; is = refl; number-is = cc; part-is = cc }
 
-pub paired-fine : {r : Pair} (fault : Option Blamed) (n k : Counts) → r ≡ paired fault n → r ≡ Pair.Fine k → (fault ≡ none) × (n ≡ k)
+pub paired-fine : {r : Pair} (fault : Option Blamed) (n k : Counts) → r ≡ paired fault n → r ≡ Pair.Fine k
+    → (fault ≡ none) × (n ≡ k)
 unfolding paired
 paired-fine none n k is told = (refl, cc)
 paired-fine (some b) n k is told = let z : _≡_ {A = ℕ} 0 1 = cc in absurd (omega arith)
 
-pub paired-fault : {r : Pair} (fault : Option Blamed) (n : Counts) (k : ℕ) (p : Part) → r ≡ paired fault n → r ≡ Pair.Fault k p → Blames fault k p
+pub paired-fault : {r : Pair} (fault : Option Blamed) (n : Counts) (k : ℕ) (p : Part) → r ≡ paired fault n
+    → r ≡ Pair.Fault k p → Blames fault k p
 unfolding paired
 paired-fault none n k p is told = let z : _≡_ {A = ℕ} 0 1 = cc in absurd (omega arith)
 paired-fault (some b) n k p is told = record { whose = b; is = refl; number-is = cc; part-is = cc }
 
 -- The answer for a pair that has such a fault.
-pub blames-pair : {fault : Option Blamed} {k : ℕ} {p : Part} (n : Counts) → Blames fault k p → Pair.Fault k p ≡ paired fault n
+pub blames-pair : {fault : Option Blamed} {k : ℕ} {p : Part} (n : Counts) → Blames fault k p
+    → Pair.Fault k p ≡ paired fault n
 unfolding paired
 blames-pair n b = rw (b .is, b .number-is, b .part-is)

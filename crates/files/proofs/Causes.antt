@@ -1,7 +1,7 @@
 -- Every fault of a pair has its cause (specs/Causes), and its bytes are a part of the file at fault.
 use Prim.Native.Nat.{ℕ, _≤_, _<_}
 use mathlib.Core.Path.{_≡_, refl, subst}
-use mathlib.Core.Logic.{_⊎_, ⊎-elim}
+use mathlib.Core.Logic.{⊎-elim}
 use mathlib.Core.Bool.{not}
 use mathlib.Core.List.{List, [], _∷_}
 use mathlib.Core.Option.{Option, none, some, Option·map, map-eq-none-iff, Option·none-ne-some, Option·some-ne-none}
@@ -11,7 +11,6 @@ use borrow.Author.Tests.{ltb-true, eqb-true, eqb-false, not-true, not-false}
 use lib.Dec.{ltb, eqb}
 use lib.ListN.{length, take, getD, length-take}
 use lib.Seq.{take-length}
-use Rattle.sets.specs.Sets.{first}
 use Rattle.records.specs.declared.Fault.{Fault}
 use Rattle.sections.specs.Sections.{tooLong, wrongVersion}
 use Rattle.sections.proofs.Fits.{neither, not-given}

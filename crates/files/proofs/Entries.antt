@@ -1,4 +1,5 @@
--- Laws on judging a trace: the first entry that names what the model lacks, and the answer for the trace from its tests in order.
+-- Laws on judging a trace: the first entry that names what the model lacks, and the answer for the trace from its tests
+-- in order.
 use Prim.Native.Nat.{ℕ, zero, suc, _+_, _*_, _-_, _/_, _%_, _≤_, _<_}
 use mathlib.Core.Path.{_≡_, refl, ap, fun-ext}
 use mathlib.Core.Logic.{_⊎_, inl, inr}
@@ -38,7 +39,8 @@ module _ (known rules entry : ℕ) (entries : List ℕ) where
   lacking-here e = rw (e, first)
 
   -- Otherwise it is among the others, which all name rules.
-  pub lacking-later : leb known entry ≡ false → lacking known rules (entry ∷ entries) ≡ suc (lacking rules rules entries)
+  pub lacking-later : leb known entry ≡ false
+      → lacking known rules (entry ∷ entries) ≡ suc (lacking rules rules entries)
   unfolding first lacks
   lacking-later e = rw (e, first) (ap (λ (p : ℕ → Bool). suc (first p (length entries))) (fun-ext same))
     where
@@ -53,18 +55,32 @@ abbrev pub answer : ℕ → ℕ → List ℕ → Passed
 answer goals rules file = passed (traceFault goals rules file) (endAt file 1) (length (traceOf file .steps))
 
 -- A trace whose section doesn't fit is at fault there.
-pub answer-unfit : (goals rules : ℕ) (file : List ℕ) → fits file 1 ≡ false → passed (some (restFault file 1)) 0 0 ≡ answer goals rules file
+pub answer-unfit : (goals rules : ℕ) (file : List ℕ) → fits file 1 ≡ false
+    → passed (some (restFault file 1)) 0 0 ≡ answer goals rules file
 unfolding traceFault sectionAt inSection _orElse_ passed
 answer-unfit goals rules file unfit = rw unfit
 
-module _ (goals rules : ℕ) (file : List ℕ) (end : ℕ) (ended : Ended file 1 end) (bytes : List ℕ) (entries : bytes ≡ payload file 1) where
+module _ (goals rules : ℕ) (file : List ℕ) (end : ℕ) (ended : Ended file 1 end) (bytes : List ℕ)
+    (entries : bytes ≡ payload file 1) where
   -- the fault by its parts, where the section fits
-  chain : traceFault goals rules file ≡ (Option·map (moved 5) (traceShape bytes) orElse leftOver file end orElse Option·map (moved 5) (traceCount bytes) orElse Option·map (moved 5) (traceNames goals rules bytes))
+  chain : traceFault goals rules file
+      ≡ (Option·map (moved 5) (traceShape bytes)
+      orElse leftOver file end
+      orElse Option·map (moved 5) (traceCount bytes)
+      orElse Option·map (moved 5) (traceNames goals rules bytes))
   unfolding traceFault sectionAt
-  chain = rw (entries, ended .is, fit-fault file 1 traceShape (ended .fit), fit-fault file 1 traceCount (ended .fit), fit-fault file 1 (traceNames goals rules) (ended .fit))
+  chain =
+      rw (
+        entries,
+        ended .is,
+        fit-fault file 1 traceShape (ended .fit),
+        fit-fault file 1 traceCount (ended .fit),
+        fit-fault file 1 (traceNames goals rules) (ended .fit),
+      )
 
   -- It is 4 for bytes that are too few or odd.
-  pub answer-shape : (length bytes < 2) ⊎ (eqb (length bytes % 2) 1 ≡ true) → Passed.Fault (record { number = 4; start = 5; size = length bytes }) ≡ answer goals rules file
+  pub answer-shape : (length bytes < 2) ⊎ (eqb (length bytes % 2) 1 ≡ true)
+      → Passed.Fault (record { number = 4; start = 5; size = length bytes }) ≡ answer goals rules file
   unfolding traceShape given allOf moved _orElse_ passed
   answer-shape h = rw (chain, misshapen h)
     where
@@ -85,7 +101,8 @@ module _ (goals rules : ℕ) (file : List ℕ) (end : ℕ) (ended : Ended file 1
 
     module _ (done : length file ≤ end) where
       -- It is 5 for too many steps.
-      pub answer-count : 1024 < length bytes / 2 - 1 → Passed.Fault (record { number = 5; start = 5; size = length bytes }) ≡ answer goals rules file
+      pub answer-count : 1024 < length bytes / 2 - 1
+          → Passed.Fault (record { number = 5; start = 5; size = length bytes }) ≡ answer goals rules file
       unfolding traceCount leftOver given allOf moved _orElse_ passed
       answer-count h =
           let many : 1 + 1024 < length (words bytes) = omega (arith, length-words bytes) in
@@ -100,7 +117,8 @@ pub record Counted (file : List ℕ) (end : ℕ) (bytes : List ℕ) : Type 0 whe
   pub done : length file ≤ end
   pub few : length bytes / 2 - 1 ≤ 1024
 
-module _ (goals rules : ℕ) {file : List ℕ} {end : ℕ} {bytes : List ℕ} (s : Counted file end bytes) {at : ℕ} (found : at ≡ 2 * lacking goals rules (words bytes)) where
+module _ (goals rules : ℕ) {file : List ℕ} {end : ℕ} {bytes : List ℕ} (s : Counted file end bytes) {at : ℕ}
+    (found : at ≡ 2 * lacking goals rules (words bytes)) where
   -- then only the names are left
   names-left : traceFault goals rules file ≡ Option·map (moved 5) (traceNames goals rules bytes)
   unfolding traceCount leftOver given allOf _orElse_
@@ -110,13 +128,15 @@ module _ (goals rules : ℕ) {file : List ℕ} {end : ℕ} {bytes : List ℕ} (s
       rw (chain goals rules file end (s .ended) bytes (s .entries), right, le-ltb _ _ (s .done), le-ltb _ _ counted)
 
   -- where the first entry is that names what the model lacks, in numbers
-  spot : (at < length bytes → lacking goals rules (words bytes) < length (words bytes)) × (length bytes ≤ at → length (words bytes) ≤ lacking goals rules (words bytes))
+  spot : (at < length bytes → lacking goals rules (words bytes) < length (words bytes))
+      × (length bytes ≤ at → length (words bytes) ≤ lacking goals rules (words bytes))
   spot =
       let two : length bytes % 2 ≡ 1 → ⊥ = eqb-false _ _ (s .even) in
       omega (arith, length-words bytes)
 
   -- It is 9 for that entry.
-  pub answer-name : at < length bytes → Passed.Fault (record { number = 9; start = 5 + at; size = 2 }) ≡ answer goals rules file
+  pub answer-name : at < length bytes
+      → Passed.Fault (record { number = 9; start = 5 + at; size = 2 }) ≡ answer goals rules file
   unfolding traceNames given moved passed
   answer-name h = rw (names-left, lt-ltb _ _ (spot .0 h), found)
 
@@ -124,5 +144,6 @@ module _ (goals rules : ℕ) {file : List ℕ} {end : ℕ} {bytes : List ℕ} (s
   pub answer-fine : length bytes ≤ at → Passed.To end (length bytes / 2 - 1) ≡ answer goals rules file
   unfolding traceNames given passed traceOf entriesOf sectionAt
   answer-fine h =
-      let steps : length bytes / 2 - 1 ≡ length (words (drop 2 bytes)) = omega (arith, length-words (drop 2 bytes), length-drop 2 bytes) in
+      let steps : length bytes / 2 - 1 ≡ length (words (drop 2 bytes)) =
+      omega (arith, length-words (drop 2 bytes), length-drop 2 bytes) in
       rw (names-left, le-ltb _ _ (spot .1 h), s .ended .is, steps, s .entries)

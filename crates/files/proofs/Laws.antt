@@ -10,7 +10,7 @@ use lib.ListN.{length, drop, length-map}
 use lib.Seq.{drop-drop}
 use Rattle.sets.specs.Sets.{_∈_}
 use Rattle.meaning.specs.Model.{Clause, Rule, Goal}
-use Rattle.records.specs.Words.{word, words, odd, ascending}
+use Rattle.records.specs.Words.{word, words, odd}
 use Rattle.records.specs.Records.{records, listsOf, listOf, whole, cut, cutClause, most, judge, firstFault}
 use Rattle.lists.specs.Lists.{Cut, AllCut}
 use Rattle.records.specs.declared.Kind.the-variants as kind
@@ -24,19 +24,23 @@ use Rattle.files.proofs.Shaped.{judged-section}
 use Rattle.files.proofs.Order.{all-fine, sizes-fine, bare-fine}
 
 -- Two answers for a model that meet the contract of `judge_model` are equal.
-pub model-unique : (file : List ℕ) (x y : Judged) → x ≡ judged (modelFault file) (countsOf file) → y ≡ judged (modelFault file) (countsOf file) → x ≡ y
+pub model-unique : (file : List ℕ) (x y : Judged) → x ≡ judged (modelFault file) (countsOf file)
+    → y ≡ judged (modelFault file) (countsOf file) → x ≡ y
 model-unique file x y p q = p ∙ sym q
 
 -- The lists of a clause are its head by itself and its body.
-clause-lists : (r : List ℕ) → Cut kind.Clause r → listsOf kind.Clause r ≡ some ((clauseOf r .head ∷ []) ∷ clauseOf r .body ∷ [])
+clause-lists : (r : List ℕ) → Cut kind.Clause r
+    → listsOf kind.Clause r ≡ some ((clauseOf r .head ∷ []) ∷ clauseOf r .body ∷ [])
 unfolding Cut listsOf clauseOf cut cutClause
 clause-lists r (lists, e) = rw (← drop-drop 2 2 r) (go (whole r) (odd body || ltb (length body) 2) e)
   where
     body : List ℕ
     body = drop 2 r
 
-    go : (fits short : Bool) → cond fits (cond short none (some ((word body ∷ []) ∷ words (drop 2 body) ∷ []))) none ≡ some lists
-        → cond fits (cond short none (some ((word body ∷ []) ∷ words (drop 2 body) ∷ []))) none ≡ some ((word body ∷ []) ∷ words (drop 2 body) ∷ [])
+    go : (fits short : Bool)
+        → cond fits (cond short none (some ((word body ∷ []) ∷ words (drop 2 body) ∷ []))) none ≡ some lists
+        → cond fits (cond short none (some ((word body ∷ []) ∷ words (drop 2 body) ∷ []))) none
+        ≡ some ((word body ∷ []) ∷ words (drop 2 body) ∷ [])
     go true true h = absurd (Option·none-ne-some _ h)
     go true false h = refl
     go false short h = absurd (Option·none-ne-some _ h)
@@ -59,12 +63,8 @@ module _ (file : List ℕ) (fine : shapeFault file ≡ none) where
   -- Every initial fact is below F.
   pub initial-below : Below (factCount file) (modelOf file .initial)
   unfolding modelOf reader
-  initial-below = bare-fine (factCount file) (sectionOf file Initial) (all-fine _ _ (judged-section file fine Initial)) .0
-
-  -- The initial facts are strictly ascending.
-  pub initial-ascending : ascending (modelOf file .initial) ≡ true
-  unfolding modelOf reader
-  initial-ascending = bare-fine (factCount file) (sectionOf file Initial) (all-fine _ _ (judged-section file fine Initial)) .1
+  initial-below =
+      bare-fine (factCount file) (sectionOf file Initial) (all-fine _ _ (judged-section file fine Initial)) .0
 
   -- No record of the clauses, of the rules and of the attack states is at fault.
   pub clauses-judged : firstFault (judge kind.Clause (factCount file)) (sectionOf file Clauses) ≡ none
@@ -96,18 +96,9 @@ module _ (file : List ℕ) (fine : shapeFault file ≡ none) where
   unfolding modelOf most
   clauses-bound = rw length-map (judged-count kind.Clause _ _ clauses-judged)
 
-  -- There are at most 2,048 rules.
-  pub rules-bound : length (modelOf file .rules) ≤ 2048
-  unfolding modelOf most
-  rules-bound = rw length-map (judged-count kind.Rule _ _ rules-judged)
-
-  -- There are at most 64 attack states.
-  pub goals-bound : length (modelOf file .goals) ≤ 64
-  unfolding modelOf most
-  goals-bound = rw length-map (judged-count kind.Goal _ _ goals-judged)
-
   -- The head and the body facts of every clause are below F.
-  pub clause-below : (c : Clause) → c ∈ modelOf file .clauses → (c .head < factCount file) × Below (factCount file) (c .body)
+  pub clause-below : (c : Clause) → c ∈ modelOf file .clauses
+      → (c .head < factCount file) × Below (factCount file) (c .body)
   unfolding modelOf listOf AllCut
   clause-below c member =
       let (r, there, is) = Memᴰ·of-map clauseOf (records (sectionOf file Clauses)) member in
@@ -116,7 +107,8 @@ module _ (file : List ℕ) (fine : shapeFault file ≡ none) where
       rw (← is) (facts 0 _ (rw lists (List·Memᴰ·head refl)), λ f m. facts 1 f (rw lists m))
 
   -- The facts of every rule's P, N and A are below F.
-  pub rule-below : (r : Rule) → r ∈ modelOf file .rules → Below (factCount file) (r .P) × Below (factCount file) (r .N) × Below (factCount file) (r .A)
+  pub rule-below : (r : Rule) → r ∈ modelOf file .rules
+      → Below (factCount file) (r .P) × Below (factCount file) (r .N) × Below (factCount file) (r .A)
   unfolding modelOf ruleIn
   rule-below r member =
       let (bytes, there, is) = Memᴰ·of-map ruleIn (records (sectionOf file Rules)) member in

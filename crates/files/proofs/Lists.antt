@@ -1,26 +1,25 @@
--- What a judged model's rules, attack states and initial facts are, for the run above: their records, and the facts in their lists.
+-- What a judged model's rules, attack states and initial facts are, for the run above: their records, and the facts in
+-- their lists.
 use Prim.Native.Nat.{ℕ, _≤_, _<_}
 use mathlib.Core.Path.{_≡_, subst}
 use mathlib.Core.Logic.{⊎-elim}
 use mathlib.Core.List.{List, [], List·Memᴰ·not-nil}
 use mathlib.Core.Option.{none}
 use native.Mathlib.Omega.{arith}
-use lib.Dec.{lit<}
 use lib.ListN.{length, getD, length-map, List·getD-map, List·getD-eq-default}
 use Rattle.sets.specs.Sets.{_∈_}
 use Rattle.sets.proofs.Laws.{below-or-from}
 use Rattle.meaning.specs.Model.{Rule, Goal, ruleOf, goalOf}
-use Rattle.records.specs.Words.{word, words, odd}
+use Rattle.records.specs.Words.{word, words}
 use Rattle.records.specs.Records.{records, whole, listsOf, listOf, bare, judge, firstFault}
 use Rattle.records.specs.declared.Kind.{Kind}
 use Rattle.records.specs.declared.Kind.the-variants as kind
 use Rattle.records.proofs.Words.{even-length}
 use Rattle.records.proofs.Places.{record-in}
-use Rattle.lists.specs.Lists.{Cut, AllCut, ListBytes, listCount}
+use Rattle.lists.specs.Lists.{Cut, AllCut, ListBytes}
 use Rattle.lists.proofs.Laws.{judged-facts}
 use Rattle.sections.specs.Sections.{reader}
 use Rattle.sections.specs.declared.Role.the-variants.{Initial, Rules, Goals}
-use Rattle.sections.proofs.Fits.{neither, not-given}
 use Rattle.files.specs.Files.{sectionOf, factCount, ruleIn, goalIn, modelOf, shapeFault}
 use Rattle.files.specs.Known.{Known}
 use Rattle.files.proofs.Shaped.{judged-section}
@@ -49,11 +48,15 @@ unfolding modelOf
 goal-there m h = rw length-map at h
 
 -- A list of a record of a judged section is known.
-list-known : (m : List ℕ) → shapeFault m ≡ none → (K : Kind) (section : List ℕ) → firstFault (judge K (factCount m)) section ≡ none
-    → (k : ℕ) → k < length (records section) → (j : ℕ) (bytes : List ℕ) → ListBytes K (getD (records section) k []) j bytes → Known bytes
+list-known : (m : List ℕ) → shapeFault m ≡ none → (K : Kind) (section : List ℕ)
+    → firstFault (judge K (factCount m)) section ≡ none
+    → (k : ℕ) → k < length (records section) → (j : ℕ) (bytes : List ℕ)
+    → ListBytes K (getD (records section) k []) j bytes → Known bytes
 list-known m fine K section judged k h j bytes l = record {
   facts = λ f i.
-      let below = judged-facts K (factCount m) section judged (getD (records section) k []) (record-in (records section) k h) j f in
+      let below =
+      judged-facts K (factCount m) section judged (getD (records section) k []) (record-in (records section) k h) j
+      f in
       omega (arith, facts-bound m fine, below (rw (l .facts) at i));
   even = even-length bytes (l .even);
 }
@@ -66,7 +69,8 @@ module _ (m : List ℕ) (fine : shapeFault m ≡ none) where
     facts = λ f i. omega (arith, facts-bound m fine, initial-below m fine f i);
     even =
         let bytes = sectionOf m Initial in
-        even-length bytes (bare-even (factCount m) bytes (all-fine (bare (factCount m) bytes) bytes (judged-section m fine Initial)));
+        even-length bytes
+        (bare-even (factCount m) bytes (all-fine (bare (factCount m) bytes) bytes (judged-section m fine Initial)));
   }
 
   -- Every fact that a rule adds is below F; a rule that the model lacks adds none.
@@ -81,10 +85,13 @@ module _ (m : List ℕ) (fine : shapeFault m ≡ none) where
       here = subst (λ (r : Rule). f ∈ r .A) (rule-in m k) i
 
       near : k < length (records bytes) → f < factCount m
-      near h = judged-facts kind.Rule (factCount m) bytes (rules-judged m fine) _ (record-in (records bytes) k h) 2 f here
+      near h =
+          judged-facts kind.Rule (factCount m) bytes (rules-judged m fine) _ (record-in (records bytes) k h) 2 f here
 
       far : length (records bytes) ≤ k → f < factCount m
-      far h = absurd (List·Memᴰ·not-nil (subst (λ (r : List ℕ). f ∈ listOf kind.Rule r 2) (List·getD-eq-default (records bytes) [] h) here))
+      far h =
+          let none = List·getD-eq-default (records bytes) [] h in
+          absurd (List·Memᴰ·not-nil (subst (λ (r : List ℕ). f ∈ listOf kind.Rule r 2) none here))
 
   -- The lists of a rule's record fill it.
   pub rule-record : {k : ℕ} → k < length (modelOf m .rules) → Cut kind.Rule (getD (records (sectionOf m Rules)) k [])
@@ -107,22 +114,27 @@ module _ (m : List ℕ) (fine : shapeFault m ≡ none) where
 -- ---- which lists they are
 
 module _ (m : List ℕ) (k : ℕ) {bytes : List ℕ} where
-  pub rule-P : ListBytes kind.Rule (getD (records (sectionOf m Rules)) k []) 0 bytes → words bytes ≡ ruleOf (modelOf m) k .P
+  pub rule-P : ListBytes kind.Rule (getD (records (sectionOf m Rules)) k []) 0 bytes
+      → words bytes ≡ ruleOf (modelOf m) k .P
   unfolding ruleIn
   rule-P l = rw (rule-in m k) (l .facts)
 
-  pub rule-N : ListBytes kind.Rule (getD (records (sectionOf m Rules)) k []) 1 bytes → words bytes ≡ ruleOf (modelOf m) k .N
+  pub rule-N : ListBytes kind.Rule (getD (records (sectionOf m Rules)) k []) 1 bytes
+      → words bytes ≡ ruleOf (modelOf m) k .N
   unfolding ruleIn
   rule-N l = rw (rule-in m k) (l .facts)
 
-  pub rule-A : ListBytes kind.Rule (getD (records (sectionOf m Rules)) k []) 2 bytes → words bytes ≡ ruleOf (modelOf m) k .A
+  pub rule-A : ListBytes kind.Rule (getD (records (sectionOf m Rules)) k []) 2 bytes
+      → words bytes ≡ ruleOf (modelOf m) k .A
   unfolding ruleIn
   rule-A l = rw (rule-in m k) (l .facts)
 
-  pub goal-P : ListBytes kind.Goal (getD (records (sectionOf m Goals)) k []) 0 bytes → words bytes ≡ goalOf (modelOf m) k .P
+  pub goal-P : ListBytes kind.Goal (getD (records (sectionOf m Goals)) k []) 0 bytes
+      → words bytes ≡ goalOf (modelOf m) k .P
   unfolding goalIn
   goal-P l = rw (goal-in m k) (l .facts)
 
-  pub goal-N : ListBytes kind.Goal (getD (records (sectionOf m Goals)) k []) 1 bytes → words bytes ≡ goalOf (modelOf m) k .N
+  pub goal-N : ListBytes kind.Goal (getD (records (sectionOf m Goals)) k []) 1 bytes
+      → words bytes ≡ goalOf (modelOf m) k .N
   unfolding goalIn
   goal-N l = rw (goal-in m k) (l .facts)

@@ -1,19 +1,18 @@
--- What a model is that was judged for 4 to 7: each section's length fits, each section's reader finds nothing, and nothing stands after
--- the last section.
-use Prim.Native.Nat.{ℕ, zero, suc, _+_, _-_, _≤_, _<_}
-use mathlib.Core.Path.{_≡_, refl, ap, _∙_, sym}
+-- What a model is that was judged for 4 to 7: each section's length fits, each section's reader finds nothing, and
+-- nothing stands after the last section.
+use Prim.Native.Nat.{ℕ, zero, suc, _+_, _≤_, _<_}
+use mathlib.Core.Path.{_≡_, refl}
 use mathlib.Core.Bool.{true}
 use mathlib.Core.List.{List, [], _∷_}
-use mathlib.Core.Option.{Option, none}
+use mathlib.Core.Option.{none}
 use native.Mathlib.Nat.{add-zero, zero-add, not-suc-le-zero, le-of-suc-le-suc}
 use native.Mathlib.Omega.{arith}
 use lib.Dec.{lit<}
-use lib.ListN.{length, take, drop, getD}
-use Rattle.records.specs.Records.{_orElse_}
-use Rattle.sections.specs.Sections.{sectionAt, fits, payload, inSection, leftOver, reader, endAt}
+use lib.ListN.{length, getD}
+use Rattle.sections.specs.Sections.{sectionAt, fits, payload, inSection, reader}
 use Rattle.sections.specs.declared.Role.{Role}
 use Rattle.sections.specs.declared.Role.the-variants.{Sizes, Initial, Clauses, Rules, Goals}
-use Rattle.sections.proofs.Fits.{neither, nothing-left, section-fine, fits-within, payload-part}
+use Rattle.sections.proofs.Fits.{neither, nothing-left, section-fine}
 use Rattle.sections.proofs.Parts.{fit-ended, ended-size}
 use Rattle.files.specs.Files.{roles, tag, indexOf, placeOfRole, sectionOf, factCount, faultFrom, shapeFault}
 
@@ -28,7 +27,8 @@ module _ (F : ℕ) (file : List ℕ) where
 
   -- Section j + i fits, and its reader finds nothing.
   fine-at : (rs : List Role) (j : ℕ) → faultFrom rs F file (sectionAt file j) ≡ none → (i : ℕ) → i < length rs
-      → (fits file (sectionAt file (j + i)) ≡ true) × (reader (getD rs i Goals) F (payload file (sectionAt file (j + i))) ≡ none)
+      → (fits file (sectionAt file (j + i)) ≡ true)
+      × (reader (getD rs i Goals) F (payload file (sectionAt file (j + i))) ≡ none)
   fine-at [] j e i h = absurd (not-suc-le-zero h)
   fine-at (r ∷ rs) j e zero h = rw add-zero (section-fine (reader r F) file (sectionAt file j) (others r rs j e .0))
   fine-at (r ∷ rs) j e (suc i) h =
@@ -36,7 +36,8 @@ module _ (F : ℕ) (file : List ℕ) where
       rw (← same) (fine-at rs (suc j) (others r rs j e .1) i (le-of-suc-le-suc h))
 
   -- Nothing stands after the last of them.
-  fine-end : (rs : List Role) (j : ℕ) → faultFrom rs F file (sectionAt file j) ≡ none → length file ≤ sectionAt file (j + length rs)
+  fine-end : (rs : List Role) (j : ℕ) → faultFrom rs F file (sectionAt file j) ≡ none
+      → length file ≤ sectionAt file (j + length rs)
   unfolding faultFrom
   fine-end [] j e = rw add-zero (nothing-left file (sectionAt file j) e)
   fine-end (r ∷ rs) j e =
@@ -80,17 +81,7 @@ module _ (file : List ℕ) (fine : shapeFault file ≡ none) where
   unfolding shapeFault
   file-end = fine-end (factCount file) file roles 0 fine
 
-  -- Each ends within the file, after its length.
-  pub role-within : (r : Role) → (placeOfRole file r + 4 ≤ endAt file (placeOfRole file r)) × (endAt file (placeOfRole file r) ≤ length file)
-  role-within r = fits-within file (placeOfRole file r) (role-fits r)
-
-  -- Its bytes are those between its length and its end.
-  pub role-part : (r : Role)
-      → take (endAt file (placeOfRole file r) - (placeOfRole file r + 4)) (drop (placeOfRole file r + 4) file) ≡ sectionOf file r
-  unfolding sectionOf
-  role-part r = payload-part file (placeOfRole file r)
-
-  -- They stand within the file.
+  -- Each ends within the file.
   pub role-ends : (r : Role) → placeOfRole file r + 4 + length (sectionOf file r) ≤ length file
   unfolding sectionOf
   role-ends r =

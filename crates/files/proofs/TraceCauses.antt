@@ -1,7 +1,7 @@
 -- Every fault of a trace has its cause (specs/Causes), and a trace without a fault is right.
 use Prim.Native.Nat.{ℕ, zero, suc, _+_, _*_, _≤_, _<_}
 use mathlib.Core.Path.{_≡_, refl, sym, ap, _∙_, subst}
-use mathlib.Core.Logic.{_⊎_, inl, inr, ⊎-elim}
+use mathlib.Core.Logic.{inl, inr, ⊎-elim}
 use mathlib.Core.Bool.{Bool, true, false, _||_}
 use mathlib.Core.List.{List, _∷_}
 use mathlib.Core.Option.{Option, none, some, Option·none-ne-some}
@@ -20,7 +20,6 @@ use Rattle.sections.specs.Sections.{endAt, sectionAt, fits, payload, inSection,
 use Rattle.sections.proofs.Fits.{neither, not-given, section-fine, nothing-left}
 use Rattle.files.specs.Files.{entriesOf, modelOf, traceOf, traceShape, traceCount}
 use Rattle.files.specs.Files.{lacks, traceNames, traceFault}
-use Rattle.files.specs.Files.Blamed.{model, trace}
 use Rattle.files.specs.Causes.{Ragged, RightTrace, TraceCause}
 use Rattle.files.proofs.Found.{either-found, given-found, Found, rest-found, moved-found, section-found}
 use Rattle.files.proofs.Found.{fits-is, unfit-is}

@@ -3,12 +3,12 @@ use Prim.Native.Nat.{ℕ, zero, suc, _+_, _*_, _%_, _≤_, _<_}
 use mathlib.Core.Path.{_≡_, refl, ap, _∙_}
 use mathlib.Core.Bool.{Bool, true, false}
 use mathlib.Core.List.{List, [], _∷_}
-use mathlib.Core.Option.{Option, none, some, Option·map, map-eq-none-iff}
+use mathlib.Core.Option.{Option, none, Option·map, map-eq-none-iff}
 use native.Mathlib.Nat.{not-suc-le-zero, le-of-suc-le-suc}
 use native.Mathlib.Omega.{arith}
 use lib.Dec.{T, ltb}
 use lib.ListN.{length, drop, getD, length-drop}
-use lib.Seq.{take-all, drop-drop}
+use lib.Seq.{drop-drop}
 use borrow.Author.Tests.{leb-false, ltb-false, lt-ltb}
 use Rattle.sets.specs.Sets.{every, first}
 use Rattle.sets.proofs.Laws.{both, passes, first-before}
@@ -18,16 +18,18 @@ use Rattle.records.specs.Records.{_orElse_}
 use Rattle.records.specs.declared.Fault.{Fault}
 use Rattle.records.proofs.Words.{words-two, length-words, even-length}
 use Rattle.records.proofs.Judging.{or-clear}
-use Rattle.sections.specs.Sections.{long, endAt, sectionAt, fits, payload, inSection, leftOver, tooLong, wrongVersion}
-use Rattle.files.specs.Files.{Blamed, entriesOf, modelOf, traceOf, shapeFault, modelBytes, traceBytes, traceShape, traceCount, lacks, traceNames, traceFault, headsFault, filesFault, pairFault}
+use Rattle.sections.specs.Sections.{long, sectionAt, fits, inSection, leftOver, tooLong, wrongVersion}
+use Rattle.files.specs.Files.{Blamed, entriesOf, modelOf, traceOf, shapeFault, modelBytes, traceBytes, traceShape}
+use Rattle.files.specs.Files.{traceCount, lacks, traceNames, traceFault, headsFault, filesFault, pairFault}
 use Rattle.files.specs.Files.Blamed.{model, trace}
-use Rattle.sections.proofs.Fits.{neither, not-given, section-fine, nothing-left, fits-within}
+use Rattle.sections.proofs.Fits.{neither, not-given, section-fine}
 use Rattle.files.proofs.Order.{all-fine}
 
 -- ---- numbers in bytes
 
 -- Number i of some bytes is the two bytes at its place.
-pub words-index : (bytes : List ℕ) (i : ℕ) → i < length (words bytes) → getD (words bytes) i 0 ≡ word (drop (2 * i) bytes)
+pub words-index : (bytes : List ℕ) (i : ℕ) → i < length (words bytes)
+    → getD (words bytes) i 0 ≡ word (drop (2 * i) bytes)
 unfolding words word
 words-index [] i h = absurd (not-suc-le-zero h)
 words-index (a ∷ []) i h = absurd (not-suc-le-zero h)
@@ -40,7 +42,8 @@ words-index (a ∷ b ∷ rest) (suc i) h =
 every-at : (p : ℕ → Bool) (xs : List ℕ) → ((i : ℕ) → i < length xs → p (getD xs i 0) ≡ true) → T (every p xs)
 unfolding every
 every-at p [] h = tt
-every-at p (x ∷ xs) h = both (p x) (every p xs) .1 (passes (h 0 (omega arith)), every-at p xs (λ i k. h (suc i) (omega arith)))
+every-at p (x ∷ xs) h =
+    both (p x) (every p xs) .1 (passes (h 0 (omega arith)), every-at p xs (λ i k. h (suc i) (omega arith)))
 
 -- ---- a trace with no fault
 
@@ -88,7 +91,8 @@ module _ (goals rules : ℕ) (t : List ℕ) (fine : traceFault goals rules t ≡
   trace-length = rw length-words (omega (arith, even, length-drop 2 (entriesOf t)))
 
   -- Step i is the two bytes at its place.
-  pub trace-step : (i : ℕ) → i < length (traceOf t .steps) → getD (traceOf t .steps) i 0 ≡ word (drop (2 + 2 * i) (entriesOf t))
+  pub trace-step : (i : ℕ) → i < length (traceOf t .steps)
+      → getD (traceOf t .steps) i 0 ≡ word (drop (2 + 2 * i) (entriesOf t))
   unfolding traceOf
   trace-step i h = words-index (drop 2 (entriesOf t)) i h ∙ ap word (drop-drop (2 * i) 2 (entriesOf t))
 
@@ -101,15 +105,18 @@ module _ (goals rules : ℕ) (t : List ℕ) (fine : traceFault goals rules t ≡
   pub trace-short : length (traceOf t .steps) ≤ 1024
   unfolding traceCount
   trace-short =
-      let counted : length (words (entriesOf t)) ≤ 1 + 1024 = ltb-false _ _ (not-given _ 5 (all-fine _ (entriesOf t) (known .count))) in
+      let counted : length (words (entriesOf t)) ≤ 1 + 1024 =
+      ltb-false _ _ (not-given _ 5 (all-fine _ (entriesOf t) (known .count))) in
       omega (arith, ap length entries)
 
   -- no entry names what the model lacks
-  present : (i : ℕ) → i < suc (length (traceOf t .steps)) → lacks goals rules (traceOf t .goal ∷ traceOf t .steps) i ≡ false
+  present : (i : ℕ) → i < suc (length (traceOf t .steps))
+      → lacks goals rules (traceOf t .goal ∷ traceOf t .steps) i ≡ false
   unfolding traceNames
   present i h =
       let numbers = words (entriesOf t) in
-      let passed : length numbers ≤ first (lacks goals rules numbers) (length numbers) = ltb-false _ _ (not-given _ _ (known .names)) in
+      let passed : length numbers ≤ first (lacks goals rules numbers) (length numbers) =
+      ltb-false _ _ (not-given _ _ (known .names)) in
       rw (← entries) (first-before (lacks goals rules numbers) (length numbers) i (omega (arith, ap length entries)))
 
   -- The model has the attack state.
@@ -134,7 +141,8 @@ pub record FinePair (m t : List ℕ) : Type 0 where
   pub trace : traceFault (length (modelOf m .goals)) (length (modelOf m .rules)) t ≡ none
 
 -- a file's fault and what is judged after it
-pub file-then : (blame : Fault → Blamed) (fault : Option Fault) (later : Option Blamed) → (Option·map blame fault orElse later) ≡ none → (fault ≡ none) × (later ≡ none)
+pub file-then : (blame : Fault → Blamed) (fault : Option Fault) (later : Option Blamed)
+    → (Option·map blame fault orElse later) ≡ none → (fault ≡ none) × (later ≡ none)
 file-then blame fault later e =
     let (here, after) = neither (Option·map blame fault) later e in
     (map-eq-none-iff blame fault .0 here, after)
@@ -189,10 +197,12 @@ module _ (m t : List ℕ) (fine : pairFault m t ≡ none) where
   pub pair-few : length (traceOf t .steps) ≤ 1024
   pair-few = trace-short _ _ t trace-fine
 
-  pub pair-step : (i : ℕ) → i < length (traceOf t .steps) → getD (traceOf t .steps) i 0 ≡ word (drop (2 + 2 * i) (entriesOf t))
+  pub pair-step : (i : ℕ) → i < length (traceOf t .steps)
+      → getD (traceOf t .steps) i 0 ≡ word (drop (2 + 2 * i) (entriesOf t))
   pair-step = trace-step _ _ t trace-fine
 
-  pub pair-step-known : (i : ℕ) → i < length (traceOf t .steps) → getD (traceOf t .steps) i 0 < length (modelOf m .rules)
+  pub pair-step-known : (i : ℕ) → i < length (traceOf t .steps)
+      → getD (traceOf t .steps) i 0 < length (modelOf m .rules)
   pair-step-known = trace-step-known _ _ t trace-fine
 
   pub pair-goal-known : traceOf t .goal < length (modelOf m .goals)

@@ -2,7 +2,7 @@
 -- nothing is.
 use Prim.Native.Nat.{ℕ, zero, suc, _≤_, _<_}
 use mathlib.Core.Path.{_≡_, refl, subst}
-use mathlib.Core.Logic.{_⊎_, inl, inr, ⊎-elim}
+use mathlib.Core.Logic.{inl, inr, ⊎-elim}
 use mathlib.Core.Bool.{Bool, true, false, true≢false, not, _||_}
 use mathlib.Core.List.{List, [], _∷_}
 use mathlib.Core.Option.{Option, none, some}
@@ -13,8 +13,8 @@ use borrow.Author.Tests.{leb-true, ltb-true, ltb-false, eqb-true, eqb-false, le-
 use Rattle.sets.specs.Sets.{any}
 use Rattle.sets.proofs.Laws.{is-true, passes, fails, by-test, both, either, below-or-from, any-in, any-intro}
 use Rattle.records.specs.Words.{word, words, odd, ascending}
-use Rattle.records.specs.Records.{given, _orElse_, listsOf, most, rows, tooLong, tooLarge, anyList, judge, bare}
-use Rattle.lists.proofs.Rows.{longest, Asked, asked}
+use Rattle.records.specs.Records.{given, _orElse_, listsOf, most, judge, bare}
+use Rattle.lists.proofs.Rows.{longest, asked}
 use Rattle.records.specs.declared.Kind.{Kind}
 use Rattle.records.specs.declared.Kind.the-variants as kind
 use Rattle.records.proofs.Words.{odd-length, even-length}

@@ -1,6 +1,5 @@
 -- What the answers of this crate's functions are, in document 01's numbers and values, and the bytes that a part is.
 use Prim.Native.Nat.{ℕ, zero, suc, _+_, _*_}
-use mathlib.Core.Path.{_≡_}
 use mathlib.Core.List.{List, [], _∷_}
 use mathlib.Core.Option.{Option, none, some}
 use lib.ListN.{length, take, drop, getD}
@@ -9,7 +8,7 @@ use Rattle.records.specs.declared.Fault.{Fault}
 use Rattle.sections.specs.Sections.{endAt, sectionAt, payload, entries}
 use Rattle.sections.specs.declared.Role.{Role}
 use Rattle.sections.specs.declared.Role.the-variants.{Sizes, Initial, Clauses, Rules, Goals}
-use Rattle.files.specs.Files.{Blamed, roles, placeOfRole, sectionOf, modelOf}
+use Rattle.files.specs.Files.{Blamed, placeOfRole, sectionOf, modelOf}
 use Rattle.files.specs.Files.Blamed.{model, trace}
 use Rattle.files.specs.declared.Counts.{Counts}
 use Rattle.files.specs.declared.Heads.{Heads}
@@ -29,7 +28,8 @@ unfoldable pub judged : Option Fault → Counts → Judged
 judged none n = Judged.Fine n
 judged (some f) n = Judged.Fault f
 
--- "handed back as a part of the model or of the trace itself, with a mark saying which": mark 0 is the model, 1 the trace
+-- "handed back as a part of the model or of the trace itself, with a mark saying which": mark 0 is the model, 1 the
+-- trace
 unfoldable pub blamedPart : Blamed → Part
 blamedPart (model f) = record { mark = 0; start = f .start; size = f .size }
 blamedPart (trace f) = record { mark = 1; start = f .start; size = f .size }

@@ -1,5 +1,5 @@
--- Models and traces as files: the lists that a file is, and the first fault of a model, of a trace and of a pair (document 01, "File
--- layouts", "Bounds", "Verdict numbers and the order").
+-- Models and traces as files: the lists that a file is, and the first fault of a model, of a trace and of a pair
+-- (document 01, "File layouts", "Bounds", "Verdict numbers and the order").
 use Prim.Native.Nat.{ℕ, zero, suc, _+_, _*_}
 use mathlib.Core.Bool.{Bool, _||_, cond}
 use mathlib.Core.List.{List, [], _∷_, map}
@@ -12,7 +12,8 @@ use Rattle.records.specs.Words.{word, words, odd}
 use Rattle.records.specs.Records.{given, _orElse_, records, listOf}
 use Rattle.records.specs.declared.Fault.{Fault}
 use Rattle.records.specs.declared.Kind.the-variants as kind
-use Rattle.sections.specs.Sections.{endAt, inSection, leftOver, allOf, payload, sectionAt, reader, tooLong, wrongVersion}
+use Rattle.sections.specs.Sections.{endAt, inSection, leftOver, allOf, payload, sectionAt, reader}
+use Rattle.sections.specs.Sections.{tooLong, wrongVersion}
 use Rattle.sections.specs.declared.Role.{Role}
 use Rattle.sections.specs.declared.Role.the-variants.{Sizes, Initial, Clauses, Rules, Goals}
 
@@ -96,8 +97,8 @@ traceOf file = record { goal = word (entriesOf file); steps = words (drop 2 (ent
 
 -- ---- the model's faults, in order
 
--- "at the first fault in file order, section lengths being judged when they are reached .. Bytes after the last section come last.":
--- sections of these roles, in a model of F facts, from a place on
+-- "at the first fault in file order, section lengths being judged when they are reached .. Bytes after the last section
+-- come last.": sections of these roles, in a model of F facts, from a place on
 unfoldable pub faultFrom : List Role → ℕ → List ℕ → ℕ → Option Fault
 unfolding _orElse_ inSection reader leftOver endAt
 faultFrom [] F file at = leftOver file at
@@ -122,7 +123,8 @@ modelFault file = tooLong modelBytes file orElse wrongVersion file orElse shapeF
 
 -- ---- the trace's faults, in order
 
--- "an attack state number and then rule numbers, 2 bytes each. No steps is legal": two bytes at least, and none left over
+-- "an attack state number and then rule numbers, 2 bytes each. No steps is legal": two bytes at least, and none left
+-- over
 unfoldable pub traceShape : List ℕ → Option Fault
 unfolding given allOf odd
 traceShape bytes = allOf (given (odd bytes || ltb (length bytes) 2) 4) bytes
@@ -169,7 +171,8 @@ headsFault m t =
     orElse Option·map model (wrongVersion m)
     orElse Option·map trace (wrongVersion t)
 
--- what comes before the trace's own numbers: "then 4 to 7 for the model". A refusal of a tool that hangs on the model comes after it.
+-- what comes before the trace's own numbers: "then 4 to 7 for the model". A refusal of a tool that hangs on the model
+-- comes after it.
 unfoldable pub filesFault : List ℕ → List ℕ → Option Blamed
 unfolding _orElse_ headsFault shapeFault
 filesFault m t = headsFault m t orElse Option·map model (shapeFault m)

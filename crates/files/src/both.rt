@@ -45,9 +45,11 @@ pub fn judge_heads(model: &[u8], trace: &[u8]) -> Heads
     Heads::Fine
 }
 
-// The first two stages: sizes and versions, then the model's 4 to 7. What a tool refuses for the model's sake comes after these.
+// The first two stages: sizes and versions, then the model's 4 to 7. What a tool refuses for the model's sake comes
+// after these.
 pub fn judge_files(model: &[u8], trace: &[u8]) -> Pair
-    ensures { λ r. ⌜ r ≡ paired (filesFault (now (model .entry)) (now (trace .entry))) (countsOf (now (model .entry))) ⌝ }
+    ensures { λ r. ⌜ r
+        ≡ paired (filesFault (now (model .entry)) (now (trace .entry))) (countsOf (now (model .entry))) ⌝ }
 {
     match judge_heads(model, trace) {
         Heads::Fault(number, part) => Pair::Fault(number, part),
@@ -60,7 +62,8 @@ pub fn judge_files(model: &[u8], trace: &[u8]) -> Pair
 
 // The pair: what comes before the trace's own numbers, then the trace's 4, 5 and 9.
 pub fn judge_pair(model: &[u8], trace: &[u8]) -> Pair
-    ensures { λ r. ⌜ r ≡ paired (pairFault (now (model .entry)) (now (trace .entry))) (countsOf (now (model .entry))) ⌝ }
+    ensures { λ r. ⌜ r
+        ≡ paired (pairFault (now (model .entry)) (now (trace .entry))) (countsOf (now (model .entry))) ⌝ }
 {
     match judge_files(model, trace) {
         Pair::Fault(number, part) => Pair::Fault(number, part),

@@ -1,5 +1,5 @@
-// What judged files hold: a model's sections, each a part of the model that starts at its first payload byte, the records of its rules
-// and attack states, and the trace's entries. The caller has judged the files.
+// What judged files hold: a model's sections, each a part of the model that starts at its first payload byte, the
+// records of its rules and attack states, and the trace's entries. The caller has judged the files.
 ghost use mathlib.Core.Path.{_≡_};
 ghost use mathlib.Core.Option.{none};
 ghost use mathlib.Core.Bool.{true};

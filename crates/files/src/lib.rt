@@ -1,5 +1,6 @@
 // Reads model and trace files: the first fault of a pair with the part at fault, and what a judged file holds.
-// model: a model's faults; trace: a trace's; both: the pair in document 01's order, and the part at fault; held: what is in judged files.
+// model: a model's faults; trace: a trace's; both: the pair in document 01's order, and the part at fault; held: what
+// is in judged files.
 pub mod both;
 pub mod held;
 pub mod model;

@@ -14,7 +14,8 @@ use sections::Passed;
 
 // The trace's 4, 5 and 9, or how many steps it has, for a model with so many attack states and rules.
 pub fn judge_trace(trace: &[u8], goals: usize, rules: usize) -> Passed
-    ensures { λ r. ⌜ r ≡ passed (traceFault goals rules (now (trace .entry))) (endAt (now (trace .entry)) 1) (length (traceOf (now (trace .entry)) .steps)) ⌝ }
+    ensures { λ r. ⌜ r ≡ passed (traceFault goals rules (now (trace .entry))) (endAt (now (trace .entry)) 1)
+        (length (traceOf (now (trace .entry)) .steps)) ⌝ }
 {
     let end = sections::section_end(trace, 1);
     if end == 0 {
@@ -52,9 +53,11 @@ pub fn judge_trace(trace: &[u8], goals: usize, rules: usize) -> Passed
     Passed::To { end, count: steps }
 }
 
-// Where the first entry stands that names what the model lacks, the attack state first and then the rules; the end where none does.
+// Where the first entry stands that names what the model lacks, the attack state first and then the rules; the end
+// where none does.
 fn lacking(entries: &[u8], goals: usize, rules: usize) -> usize
-    ensures { λ r. ⌜ r ≡ 2 * first (lacks goals rules (words (now (entries .entry)))) (length (words (now (entries .entry)))) ⌝ }
+    ensures { λ r. ⌜ r
+        ≡ 2 * first (lacks goals rules (words (now (entries .entry)))) (length (words (now (entries .entry)))) ⌝ }
 {
     let mut known = goals;
     let mut at = 0;

@@ -24,7 +24,8 @@ returns c =
     let a = c .before .before .args in
     let file = now (a .file) in
     let past : length file ≤ a .start = omega arith in
-    rest-of file (length file) ∙ drop-length file ∙ sym (ap (take (a .size)) (drop-of-length-le file past) ∙ take-nil (a .size))
+    rest-of file (length file) ∙ drop-length file
+    ∙ sym (ap (take (a .size)) (drop-of-length-le file past) ∙ take-nil (a .size))
 
 sub-rest : tie.Need-sub-rest
 sub-rest c = search needs

@@ -13,7 +13,8 @@ use Rattle.files.proofs.both.judge_files.Tie as tie
 
 -- sizes and versions are right
 heads : (c : tie.After-enum-told)
-    → let args = c .before .before .before .before .before .args in headsFault (now (args .model)) (now (args .trace)) ≡ none
+    → let args = c .before .before .before .before .before .args in
+    headsFault (now (args .model)) (now (args .trace)) ≡ none
 heads c = headed-fine _ (c .before .before .judge-heads .ensures) (c .enum-told .given .1)
 
 judge-heads-requires : tie.Need-judge-heads-requires
@@ -42,14 +43,24 @@ unfolding filesFault
 returns c =
     let asked = c .before .before .before in
     let blames = headed-fault _ _ _ (asked .judge-heads .ensures) (c .before .number .given .1) in
-    blames-pair _ (record { whose = blames .whose; is = or-first _ _ _ (blames .is); number-is = blames .number-is; part-is = blames .part-is })
+    blames-pair _
+    (record {
+      whose = blames .whose;
+      is = or-first _ _ _ (blames .is);
+      number-is = blames .number-is;
+      part-is = blames .part-is;
+    })
 
 returns-2 : tie.Need-returns-2
 unfolding filesFault _orElse_ paired blamedNumber blamedPart
 returns-2 c =
     let fault = c .before .before in
     let asked = fault .before .before in
-    rw (c .blame .ensures, heads (asked .before), judged-fault _ _ _ (asked .judge-shape .ensures) (fault .fault .given .1))
+    rw (
+      c .blame .ensures,
+      heads (asked .before),
+      judged-fault _ _ _ (asked .judge-shape .ensures) (fault .fault .given .1),
+    )
 
 returns-3 : tie.Need-returns-3
 unfolding filesFault _orElse_ paired

@@ -27,8 +27,12 @@ trace-head : (c : tie.After-head-number2) → Head 4096 (trace-of c) (c .head-nu
 trace-head c = head-told 4096 (trace-of c) (c .head-number2 .ensures)
 
 -- both files are short enough
-sizes : (c : tie.Else2) → (tooLong 65536 (model-of (c .before .before)) ≡ none) × (tooLong 4096 (trace-of (c .before .before)) ≡ none)
-sizes c = (model-head (c .before .before) .not-two (c .before .if1 .left), trace-head (c .before .before) .not-two (c .if2 .left))
+sizes : (c : tie.Else2)
+    → (tooLong 65536 (model-of (c .before .before)) ≡ none) × (tooLong 4096 (trace-of (c .before .before)) ≡ none)
+sizes c = (
+  model-head (c .before .before) .not-two (c .before .if1 .left),
+  trace-head (c .before .before) .not-two (c .if2 .left),
+)
 
 -- the model's version is right
 version : (c : tie.Else3) → wrongVersion (model-of (c .before .before .before)) ≡ none
@@ -63,7 +67,12 @@ unfolding headsFault _orElse_ headed blamedNumber blamedPart
 returns-2 c =
     let l = c .before in
     let e = l .before .before in
-    rw (c .blame2 .ensures, l .long-fault2 .ensures, model-head (e .before) .not-two (e .if1 .left), trace-head (e .before) .two (l .before .if2 .taken))
+    rw (
+      c .blame2 .ensures,
+      l .long-fault2 .ensures,
+      model-head (e .before) .not-two (e .if1 .left),
+      trace-head (e .before) .two (l .before .if2 .taken),
+    )
 
 version-fault-requires : tie.Need-version-fault-requires
 version-fault-requires c κs = search needs
@@ -76,7 +85,13 @@ unfolding headsFault _orElse_ headed blamedNumber blamedPart
 returns-3 c =
     let l = c .before in
     let e = l .before .before in
-    rw (c .blame3 .ensures, l .version-fault .ensures, sizes e .0, sizes e .1, model-head (e .before .before) .three (l .before .if3 .taken) .1)
+    rw (
+      c .blame3 .ensures,
+      l .version-fault .ensures,
+      sizes e .0,
+      sizes e .1,
+      model-head (e .before .before) .three (l .before .if3 .taken) .1,
+    )
 
 version-fault-requires-2 : tie.Need-version-fault-requires-2
 version-fault-requires-2 c κs = search needs
@@ -90,13 +105,25 @@ returns-4 c =
     let l = c .before in
     let e = l .before .before in
     let h = e .before .before .before in
-    rw (c .blame4 .ensures, l .version-fault2 .ensures, sizes (e .before) .0, sizes (e .before) .1, version e, trace-head h .three (l .before .if4 .taken) .1)
+    rw (
+      c .blame4 .ensures,
+      l .version-fault2 .ensures,
+      sizes (e .before) .0,
+      sizes (e .before) .1,
+      version e,
+      trace-head h .three (l .before .if4 .taken) .1,
+    )
 
 returns-5 : tie.Need-returns-5
 unfolding headsFault _orElse_ headed blamedNumber blamedPart
 returns-5 c =
     let e = c .before .before in
-    rw (sizes e .0, sizes e .1, version (c .before), trace-head (e .before .before) .other (e .if2 .left) (c .if4 .left) .1)
+    rw (
+      sizes e .0,
+      sizes e .1,
+      version (c .before),
+      trace-head (e .before .before) .other (e .if2 .left) (c .if4 .left) .1,
+    )
 
 pub judge-heads-spec : {M : Type 1} → statement M
 judge-heads-spec =

@@ -1,8 +1,8 @@
 -- `held::entries` meets its contract: the section ends where its length says.
 use native.Mathlib.Omega.{arith}
 use denote.Ref.{now}
-use Rattle.sections.specs.Sections.{sectionAt, endAt}
-use Rattle.sections.proofs.Parts.{Ended, fit-ended, ended-bytes, fit-end}
+use Rattle.sections.specs.Sections.{sectionAt}
+use Rattle.sections.proofs.Parts.{Ended, ended-bytes, fit-end}
 use Rattle.files.specs.Files.{entriesOf}
 use borrow.Author.Needs.{needs}
 use Rattle.files.proofs.held.entries.Statement.{statement}

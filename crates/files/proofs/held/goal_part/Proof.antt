@@ -1,6 +1,5 @@
 -- `held::goal_part` meets its contract: the record stands at its place in its section, and that in the model.
 use Prim.Native.Nat.{_+_, _≤_}
-use mathlib.Core.Path.{_∙_}
 use denote.Ref.{now}
 use lib.ListN.{length}
 use Rattle.records.proofs.Places.{place-record, place-le}
@@ -14,13 +13,16 @@ use Rattle.files.proofs.held.goal_part.Statement.{statement}
 use Rattle.files.proofs.held.goal_part.Tie as tie
 
 -- the place lies in the model
-within : (c : tie.After-place-of) → c .place-of .result + 4 + c .before .before .place .result ≤ length (now (c .before .before .before .before .before .args .model))
+within : (c : tie.After-place-of)
+    → c .place-of .result + 4 + c .before .before .place .result
+    ≤ length (now (c .before .before .before .before .before .args .model))
 within c =
     let p = c .before .before in
     let start = p .before .before .before in
     let model = now (start .args .model) in
     let at = p .place .ensures in
-    let inside : p .place .result ≤ length (sectionOf model Goals) = rw (at, p .before .section .ensures) (place-le (sectionOf model Goals) (start .args .g)) in
+    let inside : p .place .result ≤ length (sectionOf model Goals) =
+    rw (at, p .before .section .ensures) (place-le (sectionOf model Goals) (start .args .g)) in
     omega (arith, c .place-of .ensures, role-ends model (start .pre .0) Goals)
 
 section-requires : tie.Need-section-requires
@@ -47,7 +49,8 @@ returns c =
     let p = c .before .before in
     let s = p .before in
     let start = s .before .before in
-    let is = rw (p .place .ensures, s .section .ensures, place-record (sectionOf (now (start .args .model)) Goals) (start .args .g) (start .pre .1)) at (c .before .record-at .ensures) in
+    let goal = place-record (sectionOf (now (start .args .model)) Goals) (start .args .g) (start .pre .1) in
+    let is = rw (p .place .ensures, s .section .ensures, goal) at (c .before .record-at .ensures) in
     rw (c .place-of .ensures, is, p .place .ensures, s .section .ensures)
 
 pub goal-part-spec : {M : Type 1} → statement M

@@ -21,12 +21,14 @@ abbrev μ-loop : tie.MeasureT-loop
 μ-loop model n at₀ i₀ at i = n - i
 
 -- the section at hand fits
-there : (c : tie.In-loop Inv-loop μ-loop) → fits (now (c .before .before .before .before .args .model)) (c .before .loop .at) ≡ true
+there : (c : tie.In-loop Inv-loop μ-loop)
+    → fits (now (c .before .before .before .before .args .model)) (c .before .loop .at) ≡ true
 there c =
     let start = c .before .before .before .before in
     let n = c .before .before .index-of .ensures in
     rw (c .before .loop .inv .1)
-    (section-fits _ (start .pre) (c .before .loop .i) (omega (arith, n, c .loop-test .taken, role-index (start .args .role))))
+    (section-fits _ (start .pre) (c .before .loop .i)
+    (omega (arith, n, c .loop-test .taken, role-index (start .args .role))))
 
 index-of-requires : tie.Need-index-of-requires Inv-loop μ-loop
 index-of-requires c κs = search needs
@@ -53,7 +55,8 @@ loop-again c =
 returns : tie.Need-returns Inv-loop μ-loop
 unfolding placeOfRole
 returns c =
-    let done : c .before .loop .i ≡ c .before .before .index-of .result = omega (arith, c .before .loop .inv .0, c .loop-test .left) in
+    let done : c .before .loop .i ≡ c .before .before .index-of .result =
+    omega (arith, c .before .loop .inv .0, c .loop-test .left) in
     c .before .loop .inv .1 ∙ ap (sectionAt _) (done ∙ c .before .before .index-of .ensures)
 
 pub place-of-spec : {M : Type 1} → statement M

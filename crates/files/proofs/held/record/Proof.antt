@@ -18,7 +18,8 @@ returns : tie.Need-returns
 returns c =
     let start = c .before .before .before .before in
     c .record-at .ensures
-    ∙ rw (c .before .place .ensures, c .before .before .section .ensures) (place-record _ (start .args .k) (start .pre .1))
+    ∙ rw (c .before .place .ensures, c .before .before .section .ensures)
+    (place-record _ (start .args .k) (start .pre .1))
 
 pub record-spec : {M : Type 1} → statement M
 record-spec = tie.close (tie.spec section-requires place-requires record-at-requires returns)

@@ -15,7 +15,8 @@ ended : (c : tie.After-section-end)
     → Ended (now (c .before .before .before .args .model)) (c .before .place-of .result) (c .section-end .result)
 ended c =
     let start = c .before .before .before in
-    fit-end _ _ (rw (c .before .place-of .ensures) (role-fits _ (start .pre) (start .args .role))) (c .section-end .ensures)
+    fit-end _ _ (rw (c .before .place-of .ensures) (role-fits _ (start .pre) (start .args .role)))
+    (c .section-end .ensures)
 
 place-of-requires : tie.Need-place-of-requires
 place-of-requires c κs = search needs

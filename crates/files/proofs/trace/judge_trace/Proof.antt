@@ -9,7 +9,8 @@ use denote.Ref.{now}
 use lib.ListN.{take, drop}
 use Rattle.sections.specs.Sections.{payload}
 use Rattle.sections.proofs.Parts.{Ended, no-end, some-end, ended-bytes}
-use Rattle.files.proofs.Entries.{answer-unfit, answer-shape, answer-left, answer-count, Counted, answer-name, answer-fine}
+use Rattle.files.proofs.Entries.{answer-unfit, answer-shape, answer-left, answer-count, Counted}
+use Rattle.files.proofs.Entries.{answer-name, answer-fine}
 use Rattle.files.proofs.trace.judge_trace.Statement.{statement}
 use Rattle.files.proofs.trace.judge_trace.Tie as tie
 
@@ -32,7 +33,9 @@ rest-fault-requires : tie.Need-rest-fault-requires
 rest-fault-requires c κs = search needs
 
 returns : tie.Need-returns
-returns c = c .rest-fault .ensures ∙ answer-unfit _ _ _ (no-end _ 1 _ (c .before .before .section-end .ensures) (c .before .if1 .taken))
+returns c =
+    c .rest-fault .ensures
+    ∙ answer-unfit _ _ _ (no-end _ 1 _ (c .before .before .section-end .ensures) (c .before .if1 .taken))
 
 sub-entries : tie.Need-sub-entries
 sub-entries c = omega (arith, ended c .start)
@@ -55,7 +58,8 @@ returns-3 : tie.Need-returns-3
 returns-3 c =
     let odd = c .before .before in
     let e = odd .before .before .before in
-    c .rest-fault2 .ensures ∙ answer-left _ _ _ _ (ended e) _ (bytes e) (odd .before .if2 .left) (odd .if3 .left) (c .before .if4 .taken)
+    c .rest-fault2 .ensures
+    ∙ answer-left _ _ _ _ (ended e) _ (bytes e) (odd .before .if2 .left) (odd .if3 .left) (c .before .if4 .taken)
 
 sub-steps : tie.Need-sub-steps
 sub-steps c = search needs
@@ -64,7 +68,8 @@ returns-4 : tie.Need-returns-4
 returns-4 c =
     let odd = c .before .before in
     let e = odd .before .before .before in
-    answer-count _ _ _ _ (ended e) _ (bytes e) (odd .before .if2 .left) (odd .if3 .left) (c .before .if4 .left) (c .if5 .taken)
+    answer-count _ _ _ _ (ended e) _ (bytes e) (odd .before .if2 .left) (odd .if3 .left) (c .before .if4 .left)
+    (c .if5 .taken)
 
 lacking-requires : tie.Need-lacking-requires
 lacking-requires c κs = search needs
@@ -73,11 +78,21 @@ add-start : tie.Need-add-start
 add-start c = search needs
 
 -- what is known once only the names are left
-counted : (c : tie.Else5) → let e = c .before .before .before .before .before in Counted (file e) (e .before .section-end .result) (take (e .before .section-end .result - 5) (drop 5 (file e)))
+counted : (c : tie.Else5)
+    → let e = c .before .before .before .before .before in
+    let end = e .before .section-end .result in
+    Counted (file e) end (take (end - 5) (drop 5 (file e)))
 counted c =
     let odd = c .before .before in
     let e = odd .before .before .before in
-    record { ended = ended e; entries = bytes e; long = odd .before .if2 .left; even = odd .if3 .left; done = c .before .if4 .left; few = c .if5 .left }
+    record {
+      ended = ended e;
+      entries = bytes e;
+      long = odd .before .if2 .left;
+      even = odd .if3 .left;
+      done = c .before .if4 .left;
+      few = c .if5 .left;
+    }
 
 returns-5 : tie.Need-returns-5
 returns-5 c = answer-name _ _ (counted (c .before .before)) (c .before .lacking .ensures) (c .if6 .taken)

@@ -13,7 +13,9 @@ use Rattle.files.proofs.trace.lacking.Statement.{statement}
 use Rattle.files.proofs.trace.lacking.Tie as tie
 
 abbrev Inv-loop : tie.InvT-loop
-Inv-loop entries goals rules known₀ at₀ known at = (at ≤ length entries) × (2 * lacking goals rules (words entries) ≡ at + 2 * lacking known rules (words (drop at entries)))
+Inv-loop entries goals rules known₀ at₀ known at =
+    (at ≤ length entries)
+    × (2 * lacking goals rules (words entries) ≡ at + 2 * lacking known rules (words (drop at entries)))
 
 abbrev μ-loop : tie.MeasureT-loop
 μ-loop entries goals rules known₀ at₀ known at = length entries - at
@@ -40,7 +42,9 @@ word-at-requires c κs = omega arith
 returns : tie.Need-returns Inv-loop μ-loop
 returns c =
     let loop = c .before .before .before .loop in
-    let here = ap (lacking (loop .known) (c .before .before .before .before .before .args .rules)) (step (c .before)) ∙ lacking-here _ _ _ _ (le-leb _ _ (c .if1 .taken)) in
+    let here =
+    ap (lacking (loop .known) (c .before .before .before .before .before .args .rules)) (step (c .before))
+    ∙ lacking-here _ _ _ _ (le-leb _ _ (c .if1 .taken)) in
     omega (arith, here)
 
 add-at : tie.Need-add-at Inv-loop μ-loop
@@ -52,14 +56,19 @@ loop-less c = omega arith
 loop-again : tie.Need-loop-again Inv-loop μ-loop
 loop-again c =
     let loop = c .before .before .before .loop in
-    let later = ap (lacking (loop .known) (c .before .before .before .before .before .args .rules)) (step (c .before)) ∙ lacking-later _ _ _ _ (lt-leb _ _ (c .if1 .left)) in
+    let later =
+    ap (lacking (loop .known) (c .before .before .before .before .before .args .rules)) (step (c .before))
+    ∙ lacking-later _ _ _ _ (lt-leb _ _ (c .if1 .left)) in
     omega (arith, later)
 
 returns-2 : tie.Need-returns-2 Inv-loop μ-loop
 returns-2 c =
     let loop = c .before .loop in
     let args = c .before .before .before .args in
-    let end = ap (lacking (loop .known) (args .rules)) (words-none (drop (loop .at) (now (args .entries))) (rw length-drop (omega arith))) ∙ lacking-end _ _ in
+    let end =
+    ap (lacking (loop .known) (args .rules))
+    (words-none (drop (loop .at) (now (args .entries))) (rw length-drop (omega arith)))
+    ∙ lacking-end _ _ in
     omega (arith, end)
 
 pub lacking-spec : {M : Type 1} → statement M

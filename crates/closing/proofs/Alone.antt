@@ -22,7 +22,8 @@ use Rattle.files.specs.Files.{factCount, modelOf, shapeFault, modelFault, model
 use Rattle.sections.proofs.Fits.{neither}
 use Rattle.files.proofs.Laws.{facts-bound, clauses-bound, clause-below}
 use Rattle.files.proofs.Causes.{model-fault-range}
-use Rattle.closing.specs.Closing.{Bounded, ClosesUnder, noRoom, someFrom, closeRefusal, answer, Table, Closes, ClosesKnown}
+use Rattle.closing.specs.Closing.{Bounded, ClosesUnder, noRoom, someFrom, closeRefusal, answer, Table}
+use Rattle.closing.specs.Closing.{Closes, ClosesKnown}
 use Rattle.closing.specs.declared.Closed.{Closed}
 use Rattle.closing.proofs.Laws.{filled-unique}
 
@@ -44,7 +45,8 @@ module _ (state table : List ℕ) where
 
 -- a number that passes is not before the first one
 first-at-most : (p : ℕ → Bool) (n g : ℕ) → p g ≡ true → first p n ≤ g
-first-at-most p n g e = ⊎-elim (λ h. absurd (true≢false (sym e ∙ first-before p n g h))) (λ h. h) (below-or-from g (first p n))
+first-at-most p n g e =
+    ⊎-elim (λ h. absurd (true≢false (sym e ∙ first-before p n g h))) (λ h. h) (below-or-from g (first p n))
 
 -- what `any_from` answers is whether there is one
 pub some-from : (state : List ℕ) (F : ℕ) (r : Bool) → AnyFrom 512 state F r → r ≡ someFrom F (members state)
@@ -52,12 +54,13 @@ unfolding someFrom
 some-from state F true a =
     let (g, from, in-set) = a .some refl in
     let low : g < 4096 = ⊎-elim (λ h. h) (λ h. absurd (subst T (beyond 512 state g h) in-set)) (below-or-from g 4096) in
-    let passes : (leb F g && members state g) ≡ true = rw (le-leb F g from) (is-true in-set) in
-    sym (lt-ltb (first (λ f. leb F f && members state f) 4096) 4096 (lt-of-le-of-lt (first-at-most (λ f. leb F f && members state f) 4096 g passes) low))
+    let test : ℕ → Bool = λ f. leb F f && members state f in
+    let passes : test g ≡ true = rw (le-leb F g from) (is-true in-set) in
+    sym (lt-ltb (first test 4096) 4096 (lt-of-le-of-lt (first-at-most test 4096 g passes) low))
 some-from state F false a =
-    sym
-    (le-ltb _ _
-    (⊎-elim (λ h. absurd (nothing (first test 4096) (first-hit test 4096 h))) (λ h. h) (below-or-from (first test 4096) 4096)))
+    let hit = first test 4096 in
+    sym (le-ltb _ _
+    (⊎-elim (λ h. absurd (nothing hit (first-hit test 4096 h))) (λ h. h) (below-or-from hit 4096)))
   where
     test : ℕ → Bool
     test f = leb F f && members state f
@@ -72,7 +75,9 @@ some-from state F false a =
 -- a model without a fault has none of 4 to 7
 pub fine-shape : (m : List ℕ) → modelFault m ≡ none → shapeFault m ≡ none
 unfolding modelFault
-fine-shape m e = neither (wrongVersion m) (shapeFault m) (neither (tooLong modelBytes m) (wrongVersion m orElse shapeFault m) e .1) .1
+fine-shape m e =
+    neither (wrongVersion m) (shapeFault m)
+    (neither (tooLong modelBytes m) (wrongVersion m orElse shapeFault m) e .1) .1
 
 pub bounded : (m : List ℕ) → shapeFault m ≡ none → Bounded (modelOf m .clauses)
 bounded m fine = record {
@@ -85,7 +90,8 @@ bounded m fine = record {
 
 module _ (m state before : List ℕ) where
   -- a bit from F on refuses, and changes nothing
-  pub fine-refused : someFrom (factCount m) (members state) ≡ true → ClosesKnown m state before before (Closed.Refused 6)
+  pub fine-refused : someFrom (factCount m) (members state) ≡ true
+      → ClosesKnown m state before before (Closed.Refused 6)
   unfolding given answer Table
   fine-refused e = record { answers = rw e; table = rw e refl }
 
@@ -101,12 +107,14 @@ module _ (m state before : List ℕ) where
   no-room e = record { answers = rw e; table = rw e refl }
 
   -- a fault of the model refuses with its number
-  pub model-refused : (f : Fault) → noRoom state before ≡ false → modelFault m ≡ some f → Closes m state before before (Closed.Refused (f .number))
+  pub model-refused : (f : Fault) → noRoom state before ≡ false → modelFault m ≡ some f
+      → Closes m state before before (Closed.Refused (f .number))
   unfolding given _orElse_ closeRefusal answer Table
   model-refused f e h = record { answers = rw (e, h); table = rw (e, h) refl }
 
   -- with none, the state tells
-  pub model-fine : (after : List ℕ) (r : Closed) → noRoom state before ≡ false → modelFault m ≡ none → ClosesKnown m state before after r → Closes m state before after r
+  pub model-fine : (after : List ℕ) (r : Closed) → noRoom state before ≡ false → modelFault m ≡ none
+      → ClosesKnown m state before after r → Closes m state before after r
   unfolding given _orElse_ closeRefusal
   model-fine after r e h c = record { answers = rw (e, h) (c .answers); table = rw (e, h) (c .table) }
 
@@ -127,12 +135,18 @@ never-eight m state table e = go (noRoom state table) (modelFault m) refl (someF
 -- ---- one answer
 
 -- A closeRefusal changes nothing, and a filled table is one table.
-pub table-unique : (refused : Option ℕ) (cs : List Clause) (S : Facts) (before a b : List ℕ) → Table refused cs S before a → Table refused cs S before b → a ≡ b
+pub table-unique : (refused : Option ℕ) (cs : List Clause) (S : Facts) (before a b : List ℕ)
+    → Table refused cs S before a → Table refused cs S before b → a ≡ b
 unfolding Table
 table-unique none cs S before a b x y = filled-unique x y
 table-unique (some k) cs S before a b x y = x ∙ sym y
 
--- Two results of closing that meet its promise for the same model, state and table are equal, the answer and every entry.
-pub closes-unique : {model state before a b : List ℕ} {r s : Closed} → Closes model state before a r → Closes model state before b s → (r ≡ s) × (a ≡ b)
-closes-unique {model} {state} {before} {a} {b} x y =
-    (x .answers ∙ sym (y .answers), table-unique (closeRefusal model state before) (modelOf model .clauses) (members state) before a b (x .table) (y .table))
+-- Two results of closing that meet its promise for the same model, state and table are equal, the answer and every
+-- entry.
+pub closes-unique : {model state before a b : List ℕ} {r s : Closed} → Closes model state before a r
+    → Closes model state before b s → (r ≡ s) × (a ≡ b)
+closes-unique {model} {state} {before} {a} {b} x y = (
+  x .answers ∙ sym (y .answers),
+  table-unique (closeRefusal model state before) (modelOf model .clauses) (members state) before a b (x .table)
+      (y .table),
+)

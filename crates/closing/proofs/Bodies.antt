@@ -24,7 +24,8 @@ module _ (body : List ℕ) (i : ℕ) (fits : i + 2 ≤ length body) where
   pub low-after : Low body i → Low body (i + 2)
   low-after below b m = below b (rw facts (List·Memᴰ·tail m))
 
-  pub all-stand : (X : Facts) → every X (words (drop i body)) ≡ (X (word (drop i body)) && every X (words (drop (i + 2) body)))
+  pub all-stand : (X : Facts)
+      → every X (words (drop i body)) ≡ (X (word (drop i body)) && every X (words (drop (i + 2) body)))
   unfolding every
   all-stand X = rw facts
 
@@ -45,7 +46,9 @@ module _ (body : List ℕ) (i : ℕ) (fits : i + 4 ≤ length body) where
   pub low-after-both : Low body i → Low body (i + 4)
   low-after-both below b m = low-after body (i + 2) second-fits (low-after body i first-fits below) b (rw four m)
 
-  pub both-stand : (X : Facts) → every X (words (drop i body)) ≡ ((X (word (drop i body)) && X (word (drop (i + 2) body))) && every X (words (drop (i + 4) body)))
+  pub both-stand : (X : Facts)
+      → every X (words (drop i body))
+      ≡ ((X (word (drop i body)) && X (word (drop (i + 2) body))) && every X (words (drop (i + 4) body)))
   both-stand X =
       all-stand body i first-fits X
       ∙ ap (λ (t : Bool). X (word (drop i body)) && t) (rw four at (all-stand body (i + 2) second-fits X))

@@ -26,9 +26,11 @@ module _ (r : List ℕ) where
   Whole = (length r ≡ 2 + word r) × (2 ≤ length (drop 2 r)) × (length (drop 2 r) % 2 ≡ 0)
 
   by-tests : {lists : List (List ℕ)} (w o s : Bool) → whole r ≡ w → odd (drop 2 r) ≡ o → ltb (length (drop 2 r)) 2 ≡ s
-      → cond w (cond (o || s) none (some ((word (drop 2 r) ∷ []) ∷ words (drop 2 (drop 2 r)) ∷ []))) none ≡ some lists → Whole
+      → cond w (cond (o || s) none (some ((word (drop 2 r) ∷ []) ∷ words (drop 2 (drop 2 r)) ∷ []))) none ≡ some lists
+      → Whole
   unfolding whole
-  by-tests true false false ew eo es e = (eqb-true (length r) (2 + word r) ew, ltb-false (length (drop 2 r)) 2 es, even-length (drop 2 r) eo)
+  by-tests true false false ew eo es e =
+      (eqb-true (length r) (2 + word r) ew, ltb-false (length (drop 2 r)) 2 es, even-length (drop 2 r) eo)
   by-tests true false true ew eo es e = absurd (let z : _≡_ {A = ℕ} 0 1 = cc in omega arith)
   by-tests true true s ew eo es e = absurd (let z : _≡_ {A = ℕ} 0 1 = cc in omega arith)
   by-tests false o s ew eo es e = absurd (let z : _≡_ {A = ℕ} 0 1 = cc in omega arith)
@@ -37,8 +39,8 @@ module _ (r : List ℕ) where
   unfolding Cut listsOf cut cutClause
   cut-whole (lists, e) = by-tests (whole r) (odd (drop 2 r)) (ltb (length (drop 2 r)) 2) refl refl refl e
 
--- These bytes are the clause at a place, up to its end: its head and whole facts, all below 4,096; and the section's clauses from the
--- place on are it and those after it, which are judged as it is.
+-- These bytes are the clause at a place, up to its end: its head and whole facts, all below 4,096; and the section's
+-- clauses from the place on are it and those after it, which are judged as it is.
 pub record ClauseAt (section : List ℕ) (at end : ℕ) (clause : List ℕ) : Type 0 where
   pub further : at < end
   pub fits : end ≤ length section

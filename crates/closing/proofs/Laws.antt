@@ -16,14 +16,16 @@ use Rattle.meaning.specs.Rounds.{round, rounds, closure, missingHeads}
 use Rattle.meaning.specs.Published.{HC}
 use Rattle.meaning.specs.Promises.{IsRounds, IsRoundNumber}
 use Rattle.sets.proofs.Laws.{is-false, passes, fails, below-or-from}
-use Rattle.meaning.proofs.Theorems.{closure-is-HC, closure-inside, roundNumber-is, roundNumber-outside, roundNumber-le, rounds-is, rounds-bound}
+use Rattle.meaning.proofs.Theorems.{closure-is-HC, closure-inside, roundNumber-is, roundNumber-outside, roundNumber-le}
+use Rattle.meaning.proofs.Theorems.{rounds-is, rounds-bound}
 use Rattle.facts.specs.Facts.{members}
 use Rattle.facts.proofs.Laws.{beyond}
 use Rattle.closing.specs.Closing.{Written, Filled, Bounded, numbered}
 
 -- Two tables that closing can leave of one table are the same.
 pub filled-unique : {number : ℕ → ℕ} {before a b : List ℕ} → Written number before a → Written number before b → a ≡ b
-filled-unique {a = a} {b = b} p q = ext-getD 0 a b (p .as-long ∙ sym (q .as-long)) (λ f _. ⊎-elim (near f) (far f) (below-or-from f 4096))
+filled-unique {a = a} {b = b} p q =
+    ext-getD 0 a b (p .as-long ∙ sym (q .as-long)) (λ f _. ⊎-elim (near f) (far f) (below-or-from f 4096))
   where
     near : (f : ℕ) → f < 4096 → getD a f 0 ≡ getD b f 0
     near f l = p .entries f l ∙ sym (q .entries f l)
@@ -53,11 +55,13 @@ module _ (cs : List Clause) (S : Facts) {before after : List ℕ} (filled : Fill
         go false e = absurd (n (filled-closure .1 (fails e)))
 
     -- Such an entry is the first round that its fact stands in.
-    pub filled-first : (getD after f 0 ≡ 65535 → ⊥) → T (round cs S (getD after f 0) f) × ((r : ℕ) → r < getD after f 0 → T (round cs S r f) → ⊥)
+    pub filled-first : (getD after f 0 ≡ 65535 → ⊥)
+        → T (round cs S (getD after f 0) f) × ((r : ℕ) → r < getD after f 0 → T (round cs S r f) → ⊥)
     filled-first n = (filled-number f l .stands (filled-inside n), filled-number f l .first (filled-inside n))
 
     -- It is at most the number answered.
-    pub filled-within : (answered : ℕ) → answered ≡ rounds cs S → (getD after f 0 ≡ 65535 → ⊥) → getD after f 0 ≤ answered
+    pub filled-within : (answered : ℕ) → answered ≡ rounds cs S → (getD after f 0 ≡ 65535 → ⊥)
+        → getD after f 0 ≤ answered
     filled-within answered e n = rw (e, filled .entries f l) (roundNumber-le cs S f (filled-inside n))
 
   -- Where no stored fact and no head is 4,096 or more, the facts that have a number in the table are the closure.
@@ -67,7 +71,8 @@ module _ (cs : List Clause) (S : Facts) {before after : List ℕ} (filled : Fill
     where
       inside : (g : ℕ) → T (closure cs S g) → g < 4096
       inside =
-          closure-inside cs S (λ g. g < 4096) (λ g t. ⊎-elim (λ l. l) (λ h. absurd (fails (low g h) t)) (below-or-from g 4096)) (λ c m _. b .heads c m)
+          closure-inside cs S (λ g. g < 4096)
+          (λ g t. ⊎-elim (λ l. l) (λ h. absurd (fails (low g h) t)) (below-or-from g 4096)) (λ c m _. b .heads c m)
 
       near : f < 4096 → (ltb f 4096 && not (eqb (getD after f 0) 65535)) ≡ closure cs S f
       near l = rw (lt-ltb f 4096 l) (go (closure cs S f) refl)
@@ -80,7 +85,8 @@ module _ (cs : List Clause) (S : Facts) {before after : List ℕ} (filled : Fill
       far h = rw (le-ltb f 4096 h) (sym (is-false (λ t. omega (arith, inside f t))))
 
 -- The facts that have a number in the table are the smallest set that holds the state and obeys the clauses.
-pub filled-smallest : (cs : List Clause) {before after : List ℕ} (state : List ℕ) → Filled cs (members state) before after → Bounded cs → HC cs (members state) (numbered after)
+pub filled-smallest : (cs : List Clause) {before after : List ℕ} (state : List ℕ)
+    → Filled cs (members state) before after → Bounded cs → HC cs (members state) (numbered after)
 filled-smallest cs state filled b =
     let same = fun-ext (filled-numbered cs (members state) filled b (beyond 512 state)) in
     rw same (closure-is-HC cs (members state))

@@ -1,4 +1,5 @@
--- The numbers after r rounds: those of the start, what a sweep makes of them, and that those after the last round are the round numbers.
+-- The numbers after r rounds: those of the start, what a sweep makes of them, and that those after the last round are
+-- the round numbers.
 use Prim.Native.Nat.{ℕ, suc, _≤_, _<_}
 use mathlib.Core.Path.{_≡_, refl, sym, ap, ap₂, _∙_}
 use mathlib.Core.Logic.{inl, inr}
@@ -14,7 +15,8 @@ use Rattle.sets.specs.Sets.{Facts, every, any, first, _∈_}
 use Rattle.meaning.specs.Model.{Clause}
 use Rattle.meaning.specs.Rounds.{stands, next, round, obeys, rounds, closure, roundNumber}
 use Rattle.sets.proofs.Laws.{is-false, fails, first-le, first-before, first-passes, first-is}
-use Rattle.meaning.proofs.Closing.{next-obeys, round-mono, rounds-before, rounds-bound, missingHeads-bound, closure-obeys}
+use Rattle.meaning.proofs.Closing.{next-obeys, round-mono, rounds-before, rounds-bound}
+use Rattle.meaning.proofs.Closing.{missingHeads-bound, closure-obeys}
 use Rattle.closing.specs.Closing.{Bounded}
 use Rattle.closing.specs.Sweep.{stored, upTo, outside, swept, adds}
 
@@ -35,7 +37,8 @@ module _ {A : Type 0} (p q : A → Bool) where
   any-fails : (xs : List A) → ((x : A) → x ∈ xs → p x ≡ not (q x)) → any p xs ≡ not (every q xs)
   unfolding any every
   any-fails [] h = refl
-  any-fails (x ∷ xs) h = ap₂ _||_ (h x (List·Memᴰ·head refl)) (any-fails xs (λ y m. h y (List·Memᴰ·tail m))) ∙ both (q x)
+  any-fails (x ∷ xs) h =
+      ap₂ _||_ (h x (List·Memᴰ·head refl)) (any-fails xs (λ y m. h y (List·Memᴰ·tail m))) ∙ both (q x)
     where
       both : (b : Bool) → (not b || not (every q xs)) ≡ not (b && every q xs)
       both true = refl
@@ -66,19 +69,22 @@ module _ (cs : List Clause) (S : Facts) where
     -- A fact that stands has its first round already.
     first-more : stood r ≡ true → first stood (suc r) ≡ first stood r
     first-more e =
-        first-is stood (suc r) (first stood r) (first-passes stood r e) (first-before stood r) (omega (arith, first-le stood r))
+        first-is stood (suc r) (first stood r) (first-passes stood r e) (first-before stood r)
+        (omega (arith, first-le stood r))
 
     -- A fact that stands in round r + 1 and not in round r has that as its first.
     first-new : stood r ≡ false → stood (suc r) ≡ true → first stood (suc r) ≡ suc r
     first-new e n =
-        first-is stood (suc r) (suc r) n (λ q l. is-false (λ t. fails e (round-mono cs S q r (omega arith) f t))) (le-refl (suc r))
+        first-is stood (suc r) (suc r) n (λ q l. is-false (λ t. fails e (round-mono cs S q r (omega arith) f t)))
+        (le-refl (suc r))
 
     -- Where round r + 1 is round r, so are the numbers.
     pub number-still : stood (suc r) ≡ stood r → numberAfter cs S (suc r) f ≡ numberAfter cs S r f
     unfolding numberAfter
     number-still e = go (stood r) refl
       where
-        go : (b : Bool) → stood r ≡ b → cond (stood (suc r)) (first stood (suc r)) 65535 ≡ cond (stood r) (first stood r) 65535
+        go : (b : Bool) → stood r ≡ b
+            → cond (stood (suc r)) (first stood (suc r)) 65535 ≡ cond (stood r) (first stood r) 65535
         go true i = rw (e, i) (first-more i)
         go false i = rw (e, i)
 
@@ -91,7 +97,8 @@ module _ (cs : List Clause) (S : Facts) where
     number-next = go (stood r) given refl refl
       where
         go : (b g : Bool) → stood r ≡ b → given ≡ g
-            → cond (not (stood r) && given) (suc r) (cond (stood r) (first stood r) 65535) ≡ cond (stood r || given) (first stood (suc r)) 65535
+            → cond (not (stood r) && given) (suc r) (cond (stood r) (first stood r) 65535)
+            ≡ cond (stood r || given) (first stood (suc r)) 65535
         go true g i j = rw i (sym (first-more i))
         go false true i j = rw (i, j) (sym (first-new i (rw (i, j))))
         go false false i j = rw (i, j)
@@ -143,7 +150,10 @@ module _ (cs : List Clause) (S : Facts) (b : Bounded cs) (r : ℕ) (fits : r < 6
   -- The sweep adds a head exactly if round r doesn't obey the clauses.
   pub adds-is : adds cs r table ≡ not (obeys cs (round cs S r))
   unfolding adds obeys
-  adds-is = any-fails _ _ cs (λ c m. ap₂ _&&_ (outside-is (c .head) (b .heads c m)) (stands-is c m) ∙ turned (round cs S r (c .head)) (stands (round cs S r) c))
+  adds-is =
+      any-fails _ _ cs
+      (λ c m. ap₂ _&&_ (outside-is (c .head) (b .heads c m)) (stands-is c m)
+      ∙ turned (round cs S r (c .head)) (stands (round cs S r) c))
     where
       turned : (x s : Bool) → (not x && s) ≡ not (not s || x)
       turned true true = refl
@@ -157,7 +167,8 @@ module _ (cs : List Clause) (S : Facts) (r : ℕ) (within : r ≤ rounds cs S) w
   -- A round that doesn't obey the clauses is not the last one.
   pub not-last : obeys cs (round cs S r) ≡ false → r < rounds cs S
   unfolding closure
-  not-last e = elim (eq-or-lt-of-le within) [ inl i ↦ absurd (true≢false (sym (closure-obeys cs S) ∙ rw (← i) e)) | inr l ↦ l ]
+  not-last e =
+      elim (eq-or-lt-of-le within) [ inl i ↦ absurd (true≢false (sym (closure-obeys cs S) ∙ rw (← i) e)) | inr l ↦ l ]
 
   -- A round that obeys them is.
   pub is-last : obeys cs (round cs S r) ≡ true → r ≡ rounds cs S
@@ -167,7 +178,8 @@ module _ (cs : List Clause) (S : Facts) (r : ℕ) (within : r ≤ rounds cs S) w
   pub number-end : obeys cs (round cs S r) ≡ true → (f : ℕ) → numberAfter cs S (suc r) f ≡ roundNumber cs S f
   unfolding round
   number-end e f =
-      number-still cs S r f (next-obeys cs (round cs S r) .0 e f) ∙ ap (λ (q : ℕ). numberAfter cs S q f) (is-last e) ∙ number-last cs S f
+      number-still cs S r f (next-obeys cs (round cs S r) .0 e f) ∙ ap (λ (q : ℕ). numberAfter cs S q f) (is-last e)
+      ∙ number-last cs S f
 
 -- No round has a number that the table can't hold.
 pub rounds-fit : (cs : List Clause) (S : Facts) → Bounded cs → rounds cs S ≤ 4096

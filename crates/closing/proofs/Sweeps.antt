@@ -1,5 +1,5 @@
--- A sweep, one clause at a time: what the clauses that are left would still do to the table as it is now is what all of them do to the
--- table as it was.
+-- A sweep, one clause at a time: what the clauses that are left would still do to the table as it is now is what all of
+-- them do to the table as it was.
 use Prim.Native.Nat.{ℕ, _+_, _<_}
 use mathlib.Core.Path.{_≡_, refl, sym, ap, ap₂, _∙_, fun-ext}
 use mathlib.Core.Bool.{Bool, true, false, _&&_, _||_, cond, and-false, or-true, or-false}
@@ -16,7 +16,8 @@ use Rattle.closing.specs.Closing.{Written}
 use Rattle.closing.specs.Sweep.{upTo, outside, swept, adds}
 
 -- After some clauses: these clauses are left, the table is this one, and a head was added or not.
-pub record Sweeping (cs : List Clause) (r : ℕ) (before : List ℕ) (rest : List Clause) (table : List ℕ) (added : Bool) : Type 0 where
+pub record Sweeping (cs : List Clause) (r : ℕ) (before : List ℕ)
+    (rest : List Clause) (table : List ℕ) (added : Bool) : Type 0 where
   pub as-long : length table ≡ length before
   pub beyond : drop 4096 table ≡ drop 4096 before
   pub numbers : (f : ℕ) → swept rest r table f ≡ swept cs r before f
@@ -34,7 +35,8 @@ sweep-end {r = r} {table = table} {added} s = (
   sym (or-false added) ∙ s .answer,
   record {
     as-long = s .as-long;
-    entries = λ f l. ap (λ (t : Bool). cond t (r + 1) (getD table f 0)) (sym (and-false (outside table f))) ∙ s .numbers f;
+    entries =
+        λ f l. ap (λ (t : Bool). cond t (r + 1) (getD table f 0)) (sym (and-false (outside table f))) ∙ s .numbers f;
     beyond = s .beyond;
   },
 )
@@ -72,7 +74,8 @@ module _ (X : Facts) (n : ℕ) (c : Clause) (rest : List Clause) (f g : ℕ) whe
   unfolding any
   number-fire e h t = rw (eq-eqb (c .head) f e, eq-eqb g 65535 h, t)
 
-module _ {cs : List Clause} {r : ℕ} {before : List ℕ} (c : Clause) {rest : List Clause} {table : List ℕ} {added : Bool} (s : Sweeping cs r before (c ∷ rest) table added) where
+module _ {cs : List Clause} {r : ℕ} {before : List ℕ} (c : Clause) {rest : List Clause} {table : List ℕ} {added : Bool}
+    (s : Sweeping cs r before (c ∷ rest) table added) where
   sweep-pass : (outside table (c .head) && stands (upTo table r) c) ≡ false → Sweeping cs r before rest table added
   unfolding swept adds any outside
   sweep-pass h =
@@ -99,7 +102,8 @@ module _ {cs : List Clause} {r : ℕ} {before : List ℕ} (c : Clause) {rest : L
   pub sweep-fail : stands (upTo table r) c ≡ false → Sweeping cs r before rest table added
   sweep-fail h = sweep-pass (ap (λ (t : Bool). outside table (c .head) && t) h ∙ and-false (outside table (c .head)))
 
-  module _ (low : c .head < length table) (early : c .head < 4096) (fits : r < 65535) (out : getD table (c .head) 0 ≡ 65535) (body : stands (upTo table r) c ≡ true) where
+  module _ (low : c .head < length table) (early : c .head < 4096) (fits : r < 65535)
+      (out : getD table (c .head) 0 ≡ 65535) (body : stands (upTo table r) c ≡ true) where
     abbrev table′ : List ℕ
     table′ = set table (c .head) (r + 1)
 
@@ -110,7 +114,13 @@ module _ {cs : List Clause} {r : ℕ} {before : List ℕ} (c : Clause) {rest : L
       where
         at : (f : ℕ) (b : Bool) → eqb f (c .head) ≡ b → leb (getD table′ f 0) r ≡ leb (getD table f 0) r
         at f true e =
-            rw (eqb-true f (c .head) e, getD-set-same table (c .head) (r + 1) 0 low, out, lt-leb (r + 1) r (omega arith), lt-leb 65535 r fits)
+            rw (
+              eqb-true f (c .head) e,
+              getD-set-same table (c .head) (r + 1) 0 low,
+              out,
+              lt-leb (r + 1) r (omega arith),
+              lt-leb 65535 r fits,
+            )
         at f false e = rw (getD-set-other table (c .head) f (r + 1) 0 (eqb-false f (c .head) e))
 
     fire : Sweeping cs r before rest table′ true
@@ -134,10 +144,12 @@ module _ {cs : List Clause} {r : ℕ} {before : List ℕ} (c : Clause) {rest : L
             ∙ sym (number-fire (upTo table r) (r + 1) c rest f (getD table f 0) (sym i) (rw i out) body)
         same f false e =
             let n = eqb-false f (c .head) e in
-            ap₂ (λ (X : Facts) (g : ℕ). number X (r + 1) rest f g) same-set (getD-set-other table (c .head) f (r + 1) 0 n)
+            ap₂ (λ (X : Facts) (g : ℕ). number X (r + 1) rest f g) same-set
+            (getD-set-other table (c .head) f (r + 1) 0 n)
             ∙ sym (number-other (upTo table r) (r + 1) c rest f (getD table f 0) (λ q. n (sym q)))
 
   -- A clause whose head has no number, and whose body stands, gives its head the number r + 1.
-  pub sweep-fire : (head : ℕ) → head ≡ c .head → head < length table → head < 4096 → r < 65535 → getD table head 0 ≡ 65535
+  pub sweep-fire : (head : ℕ) → head ≡ c .head → head < length table → head < 4096 → r < 65535
+      → getD table head 0 ≡ 65535
       → stands (upTo table r) c ≡ true → Sweeping cs r before rest (set table head (r + 1)) true
   sweep-fire head e low early fits out body = rw e (fire (rw e at low) (rw e at early) fits (rw e at out) body)

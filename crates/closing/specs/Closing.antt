@@ -1,4 +1,5 @@
--- What closing promises: the round table that it leaves and the number that it answers (document 01, "Closing is one part", "Buffers").
+-- What closing promises: the round table that it leaves and the number that it answers (document 01, "Closing is one
+-- part", "Buffers").
 use Prim.Native.Nat.{ℕ, _<_, _≤_}
 use mathlib.Core.Path.{_≡_}
 use mathlib.Core.Bool.{Bool, not, _&&_, _||_}
@@ -52,7 +53,8 @@ unfoldable pub someFrom : ℕ → Facts → Bool
 unfolding first
 someFrom F S = ltb (first (λ f. leb F f && S f) 4096) 4096
 
--- "it gives 1 to 8 below for what it is lent, then 6 for a starting state with a bit set from F on": the refusal's number
+-- "it gives 1 to 8 below for what it is lent, then 6 for a starting state with a bit set from F on": the refusal's
+-- number
 unfoldable pub closeRefusal : List ℕ → List ℕ → List ℕ → Option ℕ
 unfolding given _orElse_ noRoom modelFault someFrom factCount
 closeRefusal model state table =
@@ -72,8 +74,10 @@ Table (some k) cs S before after = after ≡ before
 
 -- for the function within: what is left to promise for a model that nothing refuses and a table with room
 pub record ClosesKnown (model state before after : List ℕ) (r : Closed) : Type 0 where
-  pub answers : r ≡ answer (given (someFrom (factCount model) (members state)) 6) (rounds (modelOf model .clauses) (members state))
-  pub table : Table (given (someFrom (factCount model) (members state)) 6) (modelOf model .clauses) (members state) before after
+  pub answers : r
+      ≡ answer (given (someFrom (factCount model) (members state)) 6) (rounds (modelOf model .clauses) (members state))
+  pub table : Table (given (someFrom (factCount model) (members state)) 6) (modelOf model .clauses)
+      (members state) before after
 
 -- what closing promises: its answer, and every entry of the table
 pub record Closes (model state before after : List ℕ) (r : Closed) : Type 0 where

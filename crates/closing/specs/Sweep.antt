@@ -1,4 +1,5 @@
--- What the parts of closing do to the round table: its numbers at the start, and after a sweep (document 01, "Rounds", "Buffers").
+-- What the parts of closing do to the round table: its numbers at the start, and after a sweep (document 01, "Rounds",
+-- "Buffers").
 use Prim.Native.Nat.{ℕ, _+_, _/_, _%_, _^_, _<_}
 use mathlib.Core.Path.{_≡_}
 use mathlib.Core.Bool.{Bool, _&&_, cond}
@@ -16,7 +17,8 @@ use Rattle.records.specs.Words.{words}
 unfoldable pub stored : Facts → ℕ → ℕ
 stored S f = cond (S f) 0 65535
 
--- the numbers of a byte's first n facts, of eight, stand from `at` on; the entries before these eight and after them are unchanged
+-- the numbers of a byte's first n facts, of eight, stand from `at` on; the entries before these eight and after them
+-- are unchanged
 pub record Started (b at n : ℕ) (before after : List ℕ) : Type 0 where
   pub as-long : length after ≡ length before
   pub earlier : (f : ℕ) → f < at → getD after f 0 ≡ getD before f 0

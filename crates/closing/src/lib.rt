@@ -1,5 +1,6 @@
-// Closing: the rounds of a state under a model's clauses, in a lent round table. The table is the only memory: in the sweep
-// for round r + 1 a body fact counts where its number is at most r, so that a head found in this sweep cannot help in it.
+// Closing: the rounds of a state under a model's clauses, in a lent round table. The table is the only memory: in the
+// sweep for round r + 1 a body fact counts where its number is at most r, so that a head found in this sweep cannot
+// help in it.
 ghost use mathlib.Core.Path.{_≡_};
 ghost use mathlib.Core.Bool.{cond};
 ghost use mathlib.Core.Option.{none};
@@ -98,11 +99,14 @@ fn stands(body: &[u8], table: &[u16], r: u16) -> bool
     true
 }
 
-// One round more: every head whose body stands in round r, and that has no number yet, gets r + 1. Answers whether there was one.
+// One round more: every head whose body stands in round r, and that has no number yet, gets r + 1. Answers whether
+// there was one.
 fn sweep(clauses: &[u8], table: &mut [u16], r: u16) -> bool
-    requires { ⌜ AllCut Kind.Clause (now clauses) × Bounded (clausesIn (now clauses)) × (4096 ≤ length (now table)) × (r < 65535) ⌝ }
+    requires { ⌜ AllCut Kind.Clause (now clauses) × Bounded (clausesIn (now clauses)) × (4096 ≤ length (now table))
+        × (r < 65535) ⌝ }
     ensures { λ answer. ⌜ (answer ≡ adds (clausesIn (now (clauses .entry))) r (now (table .entry)))
-        × Written (swept (clausesIn (now (clauses .entry))) r (now (table .entry))) (now (table .entry)) (now (table .exit)) ⌝ }
+        × Written (swept (clausesIn (now (clauses .entry))) r (now (table .entry)))
+        (now (table .entry)) (now (table .exit)) ⌝ }
 {
     let mut added = false;
     let mut at = 0;
@@ -121,11 +125,12 @@ fn sweep(clauses: &[u8], table: &mut [u16], r: u16) -> bool
     added
 }
 
-// The rounds of a state under judged clauses: the number of rounds, and each fact's round number in the table. The caller has judged
-// the clauses' section and lends at least 4,096 entries.
+// The rounds of a state under judged clauses: the number of rounds, and each fact's round number in the table. The
+// caller has judged the clauses' section and lends at least 4,096 entries.
 fn close_clauses(clauses: &[u8], state: &[u8], table: &mut [u16]) -> usize
     requires { ⌜ AllCut Kind.Clause (now clauses) × Bounded (clausesIn (now clauses)) × (4096 ≤ length (now table)) ⌝ }
-    ensures { λ r. ⌜ ClosesUnder (clausesIn (now (clauses .entry))) (now (state .entry)) (now (table .entry)) (now (table .exit)) r ⌝ }
+    ensures { λ r. ⌜ ClosesUnder (clausesIn (now (clauses .entry))) (now (state .entry)) (now (table .entry))
+        (now (table .exit)) r ⌝ }
 {
     start(state, table);
     let mut r: u16 = 0;
@@ -135,10 +140,12 @@ fn close_clauses(clauses: &[u8], state: &[u8], table: &mut [u16]) -> usize
     r as usize
 }
 
-// The rounds of a state under a judged model's clauses. The caller has judged the model and lends at least 4,096 entries.
+// The rounds of a state under a judged model's clauses. The caller has judged the model and lends at least 4,096
+// entries.
 pub fn close_judged(model: &[u8], state: &[u8], table: &mut [u16]) -> usize
     requires { ⌜ (shapeFault (now model) ≡ none) × (4096 ≤ length (now table)) ⌝ }
-    ensures { λ r. ⌜ ClosesUnder (modelOf (now (model .entry)) .clauses) (now (state .entry)) (now (table .entry)) (now (table .exit)) r ⌝ }
+    ensures { λ r. ⌜ ClosesUnder (modelOf (now (model .entry)) .clauses) (now (state .entry)) (now (table .entry))
+        (now (table .exit)) r ⌝ }
 {
     close_clauses(held::section(model, Role::Clauses), state, table)
 }
@@ -146,7 +153,8 @@ pub fn close_judged(model: &[u8], state: &[u8], table: &mut [u16]) -> usize
 // Closes under a judged model's clauses; a state with a fact of F or more is refused.
 fn close_known(model: &[u8], state: &[u8], table: &mut [u16]) -> Closed
     requires { ⌜ (shapeFault (now model) ≡ none) × (4096 ≤ length (now table)) ⌝ }
-    ensures { λ r. ⌜ ClosesKnown (now (model .entry)) (now (state .entry)) (now (table .entry)) (now (table .exit)) r ⌝ }
+    ensures { λ r. ⌜ ClosesKnown (now (model .entry)) (now (state .entry)) (now (table .entry))
+        (now (table .exit)) r ⌝ }
 {
     if facts::any_from(state, 512, held::facts(model)) {
         return Closed::Refused(6);
@@ -154,7 +162,8 @@ fn close_known(model: &[u8], state: &[u8], table: &mut [u16]) -> Closed
     Closed::Rounds(close_judged(model, state, table))
 }
 
-// Closing called by itself: judges what it is lent, fills the round table and answers the number of rounds, or refuses and changes nothing.
+// Closing called by itself: judges what it is lent, fills the round table and answers the number of rounds, or refuses
+// and changes nothing.
 pub fn close(model: &[u8], state: &[u8], table: &mut [u16]) -> Closed
     ensures { λ r. ⌜ Closes (now (model .entry)) (now (state .entry)) (now (table .entry)) (now (table .exit)) r ⌝ }
 {

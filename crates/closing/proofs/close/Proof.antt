@@ -29,13 +29,15 @@ roomy : (c : tie.Else2) → let s = c .before .before .before .before .before in
 roomy c = long-enough _ _ (c .before .if1 .left) (c .if2 .left)
 
 -- the model has no fault
-model-is-fine : (c : tie.After-enum-told) → modelFault (model (c .before .before .before .before .before .before .before .before)) ≡ none
+model-is-fine : (c : tie.After-enum-told)
+    → modelFault (model (c .before .before .before .before .before .before .before .before)) ≡ none
 model-is-fine c = judged-fine _ _ _ (c .before .before .judge-model .ensures) (c .enum-told .given .1) .0
 
 returns : tie.Need-returns
 returns c =
     let s = c .before .before .before .before in
-    no-room (model s) (state s) (table s) (too-short _ _ (⊎-elim (λ w. inl (w .taken)) (λ w. inr (w .1 .taken)) (c .if1 .came)))
+    no-room (model s) (state s) (table s)
+    (too-short _ _ (⊎-elim (λ w. inl (w .taken)) (λ w. inr (w .1 .taken)) (c .if1 .came)))
 
 judge-model-requires : tie.Need-judge-model-requires
 judge-model-requires c κs = search needs
@@ -66,7 +68,8 @@ returns-3 c =
     let told = c .before .before .before .before in
     let tested = told .before .before .before in
     let s = tested .before .before .before .before .before in
-    model-fine (model s) (state s) (table s) _ _ (roomy tested) (model-is-fine told) (c .before .before .close-known .ensures)
+    model-fine (model s) (state s) (table s) _ _ (roomy tested) (model-is-fine told)
+    (c .before .before .close-known .ensures)
 
 pub close-spec : {M : Type 1} → statement M
 close-spec =

@@ -1,5 +1,5 @@
--- `closing::close_clauses` meets its contract. The loop's invariant: the table holds the numbers after r rounds, and there are as many
--- rounds at least. The measure is how many are left.
+-- `closing::close_clauses` meets its contract. The loop's invariant: the table holds the numbers after r rounds, and
+-- there are as many rounds at least. The measure is how many are left.
 use Prim.Native.Nat.{ℕ, suc, _-_, _≤_, _<_}
 use mathlib.Core.Path.{_≡_, refl, sym, _∙_}
 use mathlib.Core.Bool.{true, false, not}
@@ -15,13 +15,15 @@ use Rattle.meaning.specs.Rounds.{rounds, round, obeys}
 use Rattle.facts.specs.Facts.{members}
 use Rattle.files.specs.Files.{clausesIn}
 use Rattle.closing.specs.Closing.{Written}
-use Rattle.closing.proofs.Rounds.{numberAfter, number-start, swept-is, adds-is, not-last, is-last, number-end, rounds-fit}
+use Rattle.closing.proofs.Rounds.{numberAfter, number-start, swept-is, adds-is, not-last, is-last}
+use Rattle.closing.proofs.Rounds.{number-end, rounds-fit}
 use Rattle.closing.proofs.close_clauses.Statement.{statement}
 use Rattle.closing.proofs.close_clauses.Tie as tie
 
 abbrev Inv-loop : tie.InvT-loop
 Inv-loop clauses state table₀ r₀ table r =
-    (r ≤ rounds (clausesIn clauses) (members state)) × Written (numberAfter (clausesIn clauses) (members state) r) table₀ table
+    (r ≤ rounds (clausesIn clauses) (members state))
+    × Written (numberAfter (clausesIn clauses) (members state) r) table₀ table
 
 abbrev μ-loop : tie.MeasureT-loop
 μ-loop clauses state table₀ r₀ table r = rounds (clausesIn clauses) (members state) - r
@@ -52,7 +54,8 @@ module _ (c : tie.At-loop Inv-loop μ-loop) where
   long = omega (arith, c .loop .inv .1 .as-long, c .before .before .before .start .ensures .as-long, entry .pre .2)
 
 sweep-requires : tie.Need-sweep-requires Inv-loop μ-loop
-sweep-requires c κs = (entry (c .before) .pre .0, entry (c .before) .pre .1, long (c .before), omega (arith, small (c .before)))
+sweep-requires c κs =
+    (entry (c .before) .pre .0, entry (c .before) .pre .1, long (c .before), omega (arith, small (c .before)))
 
 -- After a sweep: the table holds the next round's numbers, and the answer says whether round r obeys the clauses.
 module _ (c : tie.After-sweep Inv-loop μ-loop) where
@@ -65,16 +68,19 @@ module _ (c : tie.After-sweep Inv-loop μ-loop) where
   answer : c .sweep .result ≡ not (obeys (cs head) (round (cs head) (S head) r))
   answer =
       c .sweep .ensures .0
-      ∙ adds-is (cs head) (S head) (entry head .pre .1) r (omega (arith, small head)) (head .loop .table) (head .loop .inv .1 .entries)
+      ∙ adds-is (cs head) (S head) (entry head .pre .1) r (omega (arith, small head)) (head .loop .table)
+      (head .loop .inv .1 .entries)
 
-  table : Written (numberAfter (cs head) (S head) (suc r)) (head .before .before .before .start .last .1 .0) (c .sweep .last .1 .0)
+  table : Written (numberAfter (cs head) (S head) (suc r)) (head .before .before .before .start .last .1 .0)
+      (c .sweep .last .1 .0)
   table =
       record {
         as-long = c .sweep .ensures .1 .as-long ∙ head .loop .inv .1 .as-long;
         entries =
             λ f l.
             c .sweep .ensures .1 .entries f l
-            ∙ swept-is (cs head) (S head) (entry head .pre .1) r (omega (arith, small head)) (head .loop .table) (head .loop .inv .1 .entries) f l;
+            ∙ swept-is (cs head) (S head) (entry head .pre .1) r (omega (arith, small head)) (head .loop .table)
+            (head .loop .inv .1 .entries) f l;
         beyond = c .sweep .ensures .1 .beyond ∙ head .loop .inv .1 .beyond;
       }
 

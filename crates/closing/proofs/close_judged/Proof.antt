@@ -36,7 +36,8 @@ returns c =
     let s = c .before .before .before .before .before .before .before .before in
     let closed = c .before .before .close-clauses in
     subst
-    (λ (l : List ℕ). ClosesUnder (clausesIn l) (now (s .args .state)) (now (s .args .table)) (closed .last .1 .1 .0) (closed .result))
+    (λ (l : List ℕ). ClosesUnder (clausesIn l) (now (s .args .state)) (now (s .args .table)) (closed .last .1 .1 .0)
+    (closed .result))
     (c .before .before .before .before .section .ensures) (closed .ensures)
 
 pub close-judged-spec : {M : Type 1} → statement M

@@ -26,7 +26,8 @@ any-from-requires c κs = search needs
 returns : tie.Need-returns
 returns c =
     let s = c .before .before .before .before .before .before in
-    fine-refused (now (s .args .model)) (now (s .args .state)) (now (s .args .table)) (sym (from-is (c .before)) ∙ c .if1 .taken)
+    fine-refused (now (s .args .model)) (now (s .args .state)) (now (s .args .table))
+    (sym (from-is (c .before)) ∙ c .if1 .taken)
 
 close-judged-requires : tie.Need-close-judged-requires
 close-judged-requires c κs = search needs

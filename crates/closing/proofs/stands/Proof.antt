@@ -9,7 +9,8 @@ use denote.Ref.{now}
 use Rattle.sets.specs.Sets.{Facts, every}
 use Rattle.records.specs.Words.{words}
 use Rattle.closing.specs.Sweep.{upTo}
-use Rattle.closing.proofs.Bodies.{Low, low, all-stand, first-fits, second-fits, low-second, low-after-both, both-stand}
+use Rattle.closing.proofs.Bodies.{Low, low, all-stand, first-fits, second-fits, low-second}
+use Rattle.closing.proofs.Bodies.{low-after-both, both-stand}
 use Rattle.closing.proofs.stands.Statement.{statement}
 use Rattle.closing.proofs.stands.Tie as tie
 
@@ -70,7 +71,8 @@ module _ (c : tie.After-fact-stands2 Inv-loop μ-loop) where
   answer : every X (words (body turn)) ≡ (both && every X (words (drop (i turn + 4) (body turn))))
   answer =
       turn .before .loop .inv .3 ∙ both-stand (body turn) (i turn) (two turn) X
-      ∙ ap₂ (λ (a b : Bool). (a && b) && every X (words (drop (i turn + 4) (body turn)))) (sym (c .before .fact-stands .ensures)) (sym (c .fact-stands2 .ensures))
+      ∙ ap₂ (λ (a b : Bool). (a && b) && every X (words (drop (i turn + 4) (body turn))))
+      (sym (c .before .fact-stands .ensures)) (sym (c .fact-stands2 .ensures))
 
 add-i : tie.Need-add-i Inv-loop μ-loop
 add-i c = omega (arith, two (c .before .before .before))
@@ -82,8 +84,12 @@ loop-again : tie.Need-loop-again Inv-loop μ-loop
 loop-again c =
     let turn = c .before .before .before in
     let inv = turn .before .loop .inv in
-    let t : both (c .before) ≡ true = c .if1 .taken in
-    (two turn, omega (arith, inv .1), low-after-both (body turn) (i turn) (two turn) (inv .2), rw t at (answer (c .before)))
+    let t : both (c .before) ≡ true = c .if1 .taken in (
+      two turn,
+      omega (arith, inv .1),
+      low-after-both (body turn) (i turn) (two turn) (inv .2),
+      rw t at (answer (c .before)),
+    )
 
 returns : tie.Need-returns Inv-loop μ-loop
 returns c =
@@ -102,8 +108,11 @@ module _ (c : tie.Then2 Inv-loop μ-loop) where
   one = omega (arith, c .before .before .before .before .before .pre .0 .even, c .before .before .loop .inv .1)
 
 fact-stands-requires-3 : tie.Need-fact-stands-requires-3 Inv-loop μ-loop
-fact-stands-requires-3 c κs =
-    (one c, low (last c) (at c) (one c) (c .before .before .loop .inv .2), c .before .before .before .before .before .pre .1)
+fact-stands-requires-3 c κs = (
+  one c,
+  low (last c) (at c) (one c) (c .before .before .loop .inv .2),
+  c .before .before .before .before .before .pre .1,
+)
 
 returns-2 : tie.Need-returns-2 Inv-loop μ-loop
 unfolding every words
@@ -113,7 +122,8 @@ returns-2 c =
     let X = upTo (now (args .table)) (args .r) in
     let none : length (last end) ≤ at end + 2 = omega arith in
     sym (end .before .before .loop .inv .3 ∙ all-stand (last end) (at end) (one end) X
-    ∙ ap₂ (λ (a : Bool) (l : List ℕ). a && every X (words l)) (sym (c .fact-stands3 .ensures)) (drop-of-length-le (last end) none)
+    ∙ ap₂ (λ (a : Bool) (l : List ℕ). a && every X (words l)) (sym (c .fact-stands3 .ensures))
+    (drop-of-length-le (last end) none)
     ∙ and-true (c .fact-stands3 .result))
 
 returns-3 : tie.Need-returns-3 Inv-loop μ-loop

@@ -19,7 +19,8 @@ use Rattle.closing.proofs.start.Tie as tie
 -- Lists that are the same from a place on are the same from any later one on.
 drop-more : (a b : List ℕ) (n m : ℕ) → n ≤ m → drop n a ≡ drop n b → drop m a ≡ drop m b
 drop-more a b n m l e =
-    ap (λ (k : ℕ). drop k a) (sym (add-sub-of-le l)) ∙ sym (drop-drop (m - n) n a) ∙ ap (drop (m - n)) e ∙ drop-drop (m - n) n b
+    ap (λ (k : ℕ). drop k a) (sym (add-sub-of-le l)) ∙ sym (drop-drop (m - n) n a) ∙ ap (drop (m - n)) e
+    ∙ drop-drop (m - n) n b
     ∙ ap (λ (k : ℕ). drop k b) (add-sub-of-le l)
 
 abbrev Inv-loop : tie.InvT-loop
@@ -33,7 +34,8 @@ abbrev μ-loop : tie.MeasureT-loop
 μ-loop state table₀ i₀ table i = 512 - i
 
 -- One byte more.
-module _ (state table₀ table after : List ℕ) (i : ℕ) (inv : Inv-loop state table₀ 0 table i) (h : i < 512) (s : Started (getD state i 0) (i * 8) 8 table after) where
+module _ (state table₀ table after : List ℕ) (i : ℕ) (inv : Inv-loop state table₀ 0 table i) (h : i < 512)
+    (s : Started (getD state i 0) (i * 8) 8 table after) where
   entry : (k : ℕ) → k < 8 → getD after (i * 8 + k) 0 ≡ stored (members state) (i * 8 + k)
   unfolding stored
   entry k l = s .entries k l ∙ ap (λ (t : Bool). cond t 0 65535) (sym (members-at 512 state i k h l))
@@ -44,7 +46,8 @@ module _ (state table₀ table after : List ℕ) (i : ℕ) (inv : Inv-loop state
     s .as-long ∙ inv .1,
     λ f l.
         ⊎-elim (λ q. s .earlier f q ∙ inv .2 f q)
-        (λ q. subst (λ (g : ℕ). getD after g 0 ≡ stored (members state) g) (add-sub-of-le q) (entry (f - i * 8) (omega arith)))
+        (λ q. subst (λ (g : ℕ). getD after g 0 ≡ stored (members state) g) (add-sub-of-le q)
+        (entry (f - i * 8) (omega arith)))
         (below-or-from f (i * 8)),
     drop-more after table (i * 8 + 8) 4096 (omega arith) (s .later) ∙ inv .3,
   )

@@ -17,7 +17,8 @@ abbrev μ-loop : tie.MeasureT-loop
 μ-loop b table₀ at k₀ table k = 8 - k
 
 loop-holds : tie.Need-loop-holds Inv-loop μ-loop
-loop-holds c = (omega arith, record { as-long = refl; earlier = λ f l. refl; entries = λ k l. absurd (omega arith); later = refl })
+loop-holds c =
+    (omega arith, record { as-long = refl; earlier = λ f l. refl; entries = λ k l. absurd (omega arith); later = refl })
 
 cast-number : tie.Need-cast-number Inv-loop μ-loop
 cast-number c = omega arith
@@ -55,7 +56,8 @@ loop-again c =
         as-long = length-set table (args .at + k) _ ∙ inv .as-long;
         earlier = λ f l. getD-set-other table (args .at + k) f _ 0 (λ e. omega arith) ∙ inv .earlier f l;
         entries =
-            below-more _ k (λ j l. getD-set-other table (args .at + k) (args .at + j) _ 0 (λ e. omega arith) ∙ inv .entries j l)
+            below-more _ k
+            (λ j l. getD-set-other table (args .at + k) (args .at + j) _ 0 (λ e. omega arith) ∙ inv .entries j l)
             (getD-set-same table (args .at + k) _ 0 inside ∙ c .number .ensures);
         later = drop-set-lt (args .at + 8) table (args .at + k) _ (omega arith) ∙ inv .later;
       },

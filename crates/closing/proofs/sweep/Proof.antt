@@ -1,5 +1,5 @@
--- `closing::sweep` meets its contract. The loop's invariant: what the clauses from `at` on would still do to the table is what all of them
--- do to the table as it was.
+-- `closing::sweep` meets its contract. The loop's invariant: what the clauses from `at` on would still do to the table
+-- is what all of them do to the table as it was.
 use Prim.Native.Nat.{ℕ, _+_, _-_, _≤_, _<_}
 use mathlib.Core.Path.{_≡_, refl, sym, ap, _∙_}
 use mathlib.Core.Bool.{Bool, false}
@@ -45,7 +45,8 @@ module _ (c : tie.In-loop Inv-loop μ-loop) where
   abbrev at : ℕ
   at = c .before .loop .at
 
-  clause : (end : ℕ) → end ≡ at + 2 + word (drop at clauses) → ClauseAt clauses at end (take (end - at) (drop at clauses))
+  clause : (end : ℕ) → end ≡ at + 2 + word (drop at clauses)
+      → ClauseAt clauses at end (take (end - at) (drop at clauses))
   clause = clause-at clauses at (c .loop-test .taken) (c .before .loop .inv .1) (c .before .loop .inv .2)
 
 add-end : tie.Need-add-end Inv-loop μ-loop
@@ -98,7 +99,8 @@ module _ (c : tie.After-word-at2 Inv-loop μ-loop) where
   later = clausesIn (drop (end turn) (clauses (turn .before)))
 
   abbrev Left : List Clause → List ℕ → Bool → Type 0
-  Left rest table added = Sweeping (clausesIn (clauses (turn .before))) (entry .args .r) (now (entry .args .table)) rest table added
+  Left rest table added =
+      Sweeping (clausesIn (clauses (turn .before))) (entry .args .r) (now (entry .args .table)) rest table added
 
   low : c .word-at2 .result < 4096
   low = rw (c .word-at2 .ensures) (here turn .head)
@@ -188,7 +190,9 @@ same-length c = c .before .loop .inv .3 .as-long
 returns : tie.Need-returns Inv-loop μ-loop
 unfolding clausesIn
 returns c =
-    let none = ap (map clauseOf) (records-end (now (c .before .before .before .before .args .clauses)) (c .before .loop .at) (c .loop-test .left)) in
+    let none =
+    ap (map clauseOf)
+    (records-end (now (c .before .before .before .before .args .clauses)) (c .before .loop .at) (c .loop-test .left)) in
     sweep-end (rw none at (c .before .loop .inv .3))
 
 pub sweep-spec : {M : Type 1} → statement M

@@ -24,20 +24,25 @@ known-here list at h k =
     (k (word (drop at list)) (rw e (List·Memᴰ·head refl)), λ f i. k f (rw e (List·Memᴰ·tail i)))
 
 -- u is what a fact of the list does to the membership of a fact: adding or removing
-module _ (u : Bool → Bool → Bool) (idle : (x : Bool) → u x false ≡ x) (twice : (x a b : Bool) → u (u x a) b ≡ u x (a || b)) where
+module _ (u : Bool → Bool → Bool) (idle : (x : Bool) → u x false ≡ x)
+    (twice : (x a b : Bool) → u (u x a) b ≡ u x (a || b)) where
   -- one fact more is done: what the facts from here on do is what those from the next place on do afterwards
   pub done-one : (list state state' : List ℕ) (at : ℕ) → at + 2 ≤ length list
       → ((g : ℕ) → members state' g ≡ u (members state g) (eqb g (word (drop at list)))) → (g : ℕ)
-      → u (members state' g) (listed (words (drop (at + 2) list)) g) ≡ u (members state g) (listed (words (drop at list)) g)
+      → u (members state' g) (listed (words (drop (at + 2) list)) g)
+      ≡ u (members state g) (listed (words (drop at list)) g)
   unfolding listed any
   done-one list state state' at h e g =
-      rw (e g) (twice _ _ _ ∙ ap (λ (l : List ℕ). u (members state g) (listed l g)) (sym (words-at list at (rw length-drop (omega arith)))))
+      let here = sym (words-at list at (rw length-drop (omega arith))) in
+      rw (e g) (twice _ _ _ ∙ ap (λ (l : List ℕ). u (members state g) (listed l g)) here)
 
   -- where fewer than two bytes are left there is nothing to do
-  pub done-all : (list state : List ℕ) (at : ℕ) → length list < at + 2 → (g : ℕ) → u (members state g) (listed (words (drop at list)) g) ≡ members state g
+  pub done-all : (list state : List ℕ) (at : ℕ) → length list < at + 2 → (g : ℕ)
+      → u (members state g) (listed (words (drop at list)) g) ≡ members state g
   unfolding listed any
   done-all list state at h g =
-      ap (λ (l : List ℕ). u (members state g) (listed l g)) (words-none (drop at list) (rw length-drop (omega arith))) ∙ idle _
+      ap (λ (l : List ℕ). u (members state g) (listed l g)) (words-none (drop at list) (rw length-drop (omega arith)))
+      ∙ idle _
 
 -- adding, then adding
 pub add-twice : (x a b : Bool) → ((x || a) || b) ≡ (x || (a || b))

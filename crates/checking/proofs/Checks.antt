@@ -1,16 +1,17 @@
 -- Laws on the promise of `check`: from a refusal, and from a run.
 use Prim.Native.Nat.{ℕ}
-use mathlib.Core.Path.{_≡_, refl, ap, _∙_}
+use mathlib.Core.Path.{_≡_, refl}
 use mathlib.Core.Bool.{true, false}
 use mathlib.Core.List.{List}
-use mathlib.Core.Option.{Option, none, some}
-use Rattle.records.specs.Records.{given, _orElse_}
+use mathlib.Core.Option.{none, some}
 use Rattle.files.specs.Files.{pairFault, modelOf}
 use Rattle.files.specs.declared.Part.{Part}
 use Rattle.files.proofs.Answers.{Blames}
 use Rattle.closing.specs.Closing.{noRoom}
-use Rattle.checking.specs.Verdict.{Lent, nothing, refused, blamed, refusal, outcome, ran, verdictOf, Left, Buffers, Checked}
+use Rattle.checking.specs.Verdict.{Lent, nothing, refused, blamed, refusal, outcome, ran, verdictOf, Left}
+use Rattle.checking.specs.Verdict.{Buffers, Checked}
 use Rattle.checking.specs.declared.Verdict.{Verdict}
+use Rattle.checking.proofs.Refusals.{refuses-room, refuses-fault, refuses-none}
 
 module _ (m t : List ℕ) (l : Lent) where
   -- a refusal changes nothing
@@ -20,19 +21,20 @@ module _ (m t : List ℕ) (l : Lent) where
 
   -- without room
   pub checked-room : noRoom (l .state) (l .table) ≡ true → {v : Verdict} → v ≡ refused 1 nothing → Checked m t l l v
-  unfolding refusal given _orElse_
-  checked-room e is = rw is (checked-refused _ (rw e))
+  checked-room e is = rw is (checked-refused _ (refuses-room m t l e))
 
   module _ (room : noRoom (l .state) (l .table) ≡ false) where
     -- the pair's fault, as the reader of the pair answers it
-    pub checked-blamed : {k : ℕ} {p : Part} → Blames (pairFault m t) k p → {v : Verdict} → v ≡ refused k p → Checked m t l l v
-    unfolding refusal given _orElse_ blamed
-    checked-blamed b is = rw is (checked-refused _ (rw (room, b .is, b .number-is, b .part-is)))
+    pub checked-blamed : {k : ℕ} {p : Part} → Blames (pairFault m t) k p → {v : Verdict} → v ≡ refused k p
+        → Checked m t l l v
+    unfolding blamed
+    checked-blamed b is =
+        rw (is, b .number-is, b .part-is) (checked-refused _ (refuses-fault m t l room (b .whose) (b .is)))
 
     -- without a fault the run tells
     pub checked-run : pairFault m t ≡ none → {after : Lent} {v : Verdict} → v ≡ ran m t (outcome m t)
         → Left (modelOf m) (outcome m t) l after → Checked m t l after v
-    unfolding refusal given _orElse_ verdictOf Buffers
-    checked-run fine {after} {v} r left =
-        let e : refusal m t l ≡ none = rw (room, fine) in
+    unfolding verdictOf Buffers
+    checked-run fine r left =
+        let e = refuses-none m t l (record { room = room; fine = fine }) in
         record { verdict = rw e r; buffers = rw e left }

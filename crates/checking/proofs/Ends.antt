@@ -8,6 +8,7 @@ use native.Mathlib.Omega.{arith}
 use lib.ListN.{length, getD, drop}
 use Rattle.sets.specs.Sets.{Facts, size, _∈_}
 use Rattle.sets.proofs.Laws.{getD-in}
+use Rattle.sets.proofs.Size.{size-below}
 use Rattle.meaning.specs.Model.{Model}
 use Rattle.meaning.specs.Rounds.{rounds, closure, roundNumber}
 use Rattle.meaning.specs.Run.{Condition, Reached, Ending, Outcome, conditions, unmet, asked, ending, outcomeOf, run}
@@ -16,7 +17,7 @@ use Rattle.meaning.specs.Run.Ending.{attack, blocked, notMet}
 use Rattle.meaning.specs.Promises.{FirstUnmet, absent, present}
 use Rattle.meaning.specs.Promises.EndsSo.{attack as so-attack, blocked as so-blocked, notMet as so-notMet}
 use Rattle.meaning.proofs.Theorems.{run-is}
-use Rattle.meaning.proofs.Runs.{Below, run-below, size-below}
+use Rattle.meaning.proofs.Runs.{Below, run-below}
 use Rattle.meaning.specs.Model.{goalOf}
 use Rattle.facts.specs.Facts.{members, Kept}
 use Rattle.facts.proofs.Laws.{kept-same, kept-trans}
@@ -24,14 +25,14 @@ use Rattle.files.specs.Files.{factCount, pairFault, shapeFault, modelOf, traceO
 use Rattle.files.proofs.Laws.{facts-bound, initial-below, rule-below, goal-below}
 use Rattle.files.proofs.Traces.{pair-shape, pair-named, pair-step-known, pair-goal-known}
 use Rattle.files.proofs.Lists.{added-below}
-use Rattle.closing.specs.Closing.{Filled, numbered, ClosesUnder}
+use Rattle.closing.specs.Closing.{numbered, ClosesUnder}
 use Rattle.checking.specs.Verdict.{Lent, factIn, roundIn, outcome, Left}
-use Rattle.checking.specs.Running.{conditionOf, unmetOf, endingOf, reached, counted, StepsTo, askedIn, KnownIn, Numbers, EndsAs}
+use Rattle.checking.specs.Running.{unmetOf, endingOf, reached, counted, StepsTo, askedIn, KnownIn}
+use Rattle.checking.specs.Running.{Numbers, EndsAs}
 use Rattle.checking.specs.declared.conditions.Condition.the-variants as condition
 use Rattle.checking.specs.declared.conditions.Unmet.the-variants as found
 use Rattle.checking.specs.declared.running.Ending.the-variants as ends
 use Rattle.checking.specs.declared.running.Steps.{Steps}
-use Rattle.checking.specs.declared.running.Ended.{Ended}
 use Rattle.checking.proofs.Stepwise.{closure-shown}
 
 -- ---- what is asked of the last state
@@ -41,7 +42,8 @@ module _ (m : Model) (g : ℕ) (X : Facts) where
   unfolding askedIn
   asked-met e = rw (e, askedIn)
 
-  pub asked-unmet : {c : Condition} → unmet X (conditions (goalOf m g .P) (goalOf m g .N)) ≡ some c → notMet c ≡ askedIn m g X
+  pub asked-unmet : {c : Condition} → unmet X (conditions (goalOf m g .P) (goalOf m g .N)) ≡ some c
+      → notMet c ≡ askedIn m g X
   unfolding askedIn
   asked-unmet e = rw (e, askedIn)
 
@@ -53,7 +55,8 @@ module _ (m : Model) (r : Reached) where
   unfolding ending
   ending-blocked g e = rw (e, ending)
 
-  counted-blocked : {c : Condition} → r .stop ≡ some c → counted m r ≡ r .earlier + rounds (m .clauses) (r .state .facts)
+  counted-blocked : {c : Condition} → r .stop ≡ some c
+      → counted m r ≡ r .earlier + rounds (m .clauses) (r .state .facts)
   unfolding counted
   counted-blocked e = rw (e, counted)
 
@@ -113,7 +116,8 @@ module _ (m t : List ℕ) where
     pub ends-asked : shapeFault m ≡ none → {table : List ℕ} {n : ℕ} {e : ends.the-data} → r .stop ≡ found.Nowhere
         → ClosesUnder (modelOf m .clauses) (l .state) (l .table) table n
         → endingOf e ≡ askedIn (modelOf m) (traceOf t .goal) (numbered table)
-        → EndsAs m t l (record { state = l .state; table = table }) (record { ending = e; step = r .fired; rounds = r .rounds + n })
+        → EndsAs m t l (record { state = l .state; table = table })
+        (record { ending = e; step = r .fired; rounds = r .rounds + n })
     unfolding outcome run outcomeOf unmetOf reached
     ends-asked fine {n = n} q closed asks =
         let stop = sym (s .stop) ∙ ap unmetOf q in
@@ -122,7 +126,8 @@ module _ (m t : List ℕ) where
         record {
           within = s .within;
           ending =
-              asks ∙ ap (askedIn (modelOf m) (traceOf t .goal)) shown ∙ ending-asked (modelOf m) (reached m t) (traceOf t .goal) stop;
+              asks ∙ ap (askedIn (modelOf m) (traceOf t .goal)) shown
+              ∙ ending-asked (modelOf m) (reached m t) (traceOf t .goal) stop;
           step = s .fired;
           rounds =
               ap (λ k. k + n) (s .rounds ∙ counted-all (modelOf m) (reached m t) stop)
@@ -131,9 +136,10 @@ module _ (m t : List ℕ) where
         }
 
   -- All bits of the last state are facts below F, so that counting them counts its facts.
-  pub held-is : shapeFault m ≡ none → (state : List ℕ) {held : ℕ} → ((g : ℕ) → members state g ≡ outcome m t .state .facts g)
+  pub held-is : shapeFault m ≡ none → (state : List ℕ) {held : ℕ}
+      → ((g : ℕ) → members state g ≡ outcome m t .state .facts g)
       → held ≡ size (members state) 4096 → held ≡ outcome m t .held
-  unfolding outcome run outcomeOf modelOf
+  unfolding outcome run outcomeOf modelOf Below
   held-is fine state e h =
       let below = run-below (modelOf m) (traceOf t) (initial-below m fine) (added-below m fine) in
       h ∙ ap (λ X. size X 4096) (fun-ext e) ∙ size-below _ _ 4096 (facts-bound m fine) below
@@ -166,7 +172,8 @@ of-notMet e (inl q) = let z : _≡_ {A = ℕ} 0 1 = cc in absurd (omega arith)
 of-notMet e (inr q) = cc
 
 -- Its fact is one that a table has an entry for.
-pub ending-known : (m t : List ℕ) → pairFault m t ≡ none → (c : Condition) → EndsWith (outcome m t .ending) c → KnownIn c
+pub ending-known : (m t : List ℕ) → pairFault m t ≡ none → (c : Condition) → EndsWith (outcome m t .ending) c
+    → KnownIn c
 unfolding outcome KnownIn
 ending-known m t fine c told =
     let M = modelOf m in
@@ -174,7 +181,9 @@ ending-known m t fine c told =
     elim (run-is M (traceOf t) (pair-named m t fine) .ends) [
       | so-attack e _ _ ↦ absurd (not-attack e told)
       | so-blocked d e h X hc u ↦
-          let r = rule-below m shape _ (getD-in (M .rules) _ (record { P = []; N = []; A = [] }) (pair-step-known m t fine _ h)) in
+          let r =
+          rule-below m shape _
+          (getD-in (M .rules) _ (record { P = []; N = []; A = [] }) (pair-step-known m t fine _ h)) in
           let small : factIn d < factCount m = first-known u (factCount m) (r .0) (r .1) in
           rw (← of-blocked e told) (omega (arith, facts-bound m shape))
       | so-notMet d e h X hc u ↦

@@ -1,13 +1,14 @@
--- Laws on the search along the conditions of two lists: it stands at condition i, and what it finds from there on is the first unmet one.
-use Prim.Native.Nat.{ℕ, _+_, _-_, _*_, _/_, _%_, _≤_, _<_}
-use mathlib.Core.Path.{_≡_, refl, sym, ap, _∙_}
-use mathlib.Core.Bool.{Bool, true, false, not}
+-- Laws on the search along the conditions of two lists: it stands at condition i, and what it finds from there on is
+-- the first unmet one.
+use Prim.Native.Nat.{ℕ, _+_, _-_, _*_, _/_, _≤_, _<_}
+use mathlib.Core.Path.{_≡_, refl, ap, _∙_}
+use mathlib.Core.Bool.{true, false, not}
 use mathlib.Core.Logic.{⊎-elim}
 use mathlib.Core.List.{List}
 use mathlib.Core.Option.{none, some}
 use native.Mathlib.Omega.{arith}
 use lib.ListN.{length, getD, drop}
-use Rattle.sets.specs.Sets.{Facts, _∈_}
+use Rattle.sets.specs.Sets.{Facts}
 use Rattle.sets.proofs.Laws.{below-or-from, getD-in}
 use Rattle.meaning.specs.Run.{Condition, met, conditions, find, unmet}
 use Rattle.meaning.specs.Run.Condition.{positive, negative}
@@ -55,7 +56,8 @@ module _ (p n : List ℕ) where
         far : length p / 2 ≤ i → factIn (getD asks i (positive 0)) < 4096
         far l =
             let there : i - length p / 2 < length (words n) = rw length-words (omega arith) in
-            rw (asks-negative l h, ← words-index n (i - length p / 2) there) (known-n .facts _ (getD-in (words n) _ 0 there))
+            rw (asks-negative l h, ← words-index n (i - length p / 2) there)
+            (known-n .facts _ (getD-in (words n) _ 0 there))
 
   -- the search along them has come to condition i
   pub record Looking (X : Facts) (i : ℕ) : Type 0 where

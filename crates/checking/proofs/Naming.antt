@@ -1,14 +1,14 @@
 -- Laws on the kind and the round of a verdict: those of the first unmet condition.
 use Prim.Native.Nat.{ℕ}
-use mathlib.Core.Path.{_≡_, refl, sym, _∙_, fun-ext, subst}
-use mathlib.Core.Logic.{_↔_, inl, inr}
+use mathlib.Core.Path.{_≡_, sym, _∙_, fun-ext, subst}
+use mathlib.Core.Logic.{inl, inr}
 use mathlib.Core.List.{List}
 use mathlib.Core.Option.{Option, some}
 use native.Mathlib.Omega.{arith}
 use Rattle.sets.specs.Sets.{Facts}
 use Rattle.meaning.specs.Model.{Clause}
 use Rattle.meaning.specs.Rounds.{closure}
-use Rattle.meaning.specs.Run.{Condition, conditions, unmet}
+use Rattle.meaning.specs.Run.{Condition}
 use Rattle.meaning.specs.Run.Condition.{positive, negative}
 use Rattle.meaning.specs.Published.{HC}
 use Rattle.meaning.specs.Promises.{FirstUnmet}
@@ -32,7 +32,8 @@ in-closure {cs} {S} {P = P} {N} {c} hc u =
 
 module _ {X : Facts} {P N : List ℕ} (number : ℕ → ℕ) (v : Verdict) where
   -- A verdict with the fact, the kind and the round of that condition names it.
-  pub named : (c : Condition) → FirstUnmet X P N c → v .fact ≡ factIn c → v .kind ≡ kindIn c → v .round ≡ roundIn number c
+  pub named : (c : Condition) → FirstUnmet X P N c → v .fact ≡ factIn c → v .kind ≡ kindIn c
+      → v .round ≡ roundIn number c
       → Named X P N number v
   unfolding factIn kindIn roundIn
   named (positive f) u fact kind round = record {

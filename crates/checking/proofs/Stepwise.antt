@@ -1,5 +1,5 @@
--- Laws on the search over the steps: it stands before a step, the buffers hold the state reached there, and where the steps lead is where
--- the others lead from there.
+-- Laws on the search over the steps: it stands before a step, the buffers hold the state reached there, and where the
+-- steps lead is where the others lead from there.
 use Prim.Native.Nat.{ℕ, _+_, _*_, _≤_, _<_}
 use mathlib.Core.Path.{_≡_, refl, sym, ap, _∙_, fun-ext}
 use mathlib.Core.Bool.{_||_, _&&_, not}
@@ -8,7 +8,7 @@ use mathlib.Core.Option.{Option, none, some}
 use native.Mathlib.Omega.{arith}
 use lib.ListN.{length, getD, drop}
 use Rattle.sets.specs.Sets.{Facts, listed}
-use Rattle.meaning.specs.Model.{Model, Trace, State, start, ruleOf}
+use Rattle.meaning.specs.Model.{Model, State, start, ruleOf}
 use Rattle.meaning.specs.Rounds.{rounds, closure}
 use Rattle.meaning.specs.Run.{Condition, Reached, conditions, unmet, after, reach}
 use Rattle.meaning.proofs.Theorems.{rounds-bound, missingHeads-bound}
@@ -17,13 +17,11 @@ use Rattle.facts.specs.Facts.{members, Kept}
 use Rattle.facts.proofs.Laws.{kept-same, kept-trans, beyond}
 use Rattle.files.specs.Files.{modelOf, traceOf, shapeFault}
 use Rattle.files.proofs.Laws.{clauses-bound}
-use Rattle.closing.specs.Closing.{Filled, numbered, ClosesUnder}
+use Rattle.closing.specs.Closing.{numbered, ClosesUnder}
 use Rattle.closing.proofs.Laws.{filled-numbered}
 use Rattle.closing.proofs.Alone.{bounded}
 use Rattle.checking.specs.Stepping.{Holds}
-use Rattle.checking.specs.Verdict.{Lent}
 use Rattle.checking.specs.Running.{unmetOf, reached, counted, StepsTo}
-use Rattle.checking.specs.declared.conditions.Unmet.{Unmet}
 use Rattle.checking.specs.declared.running.Steps.{Steps}
 
 -- the state that a buffer holds
@@ -59,7 +57,8 @@ module _ (m t : List ℕ) where
     pub as-long : length table ≡ length table₀
     pub beyond : drop 4096 table ≡ drop 4096 table₀
 
-  pub on-start : (state table : List ℕ) → ((g : ℕ) → members state g ≡ listed (M .initial) g) → On state table state table 0 0
+  pub on-start : (state table : List ℕ) → ((g : ℕ) → members state g ≡ listed (M .initial) g)
+      → On state table state table 0 0
   unfolding reached start
   on-start state table e = record {
     run = ahead-none _ ∙ ap (λ (X : Facts). ahead 0 0 (reach M (record { facts = X }) ks)) (sym (fun-ext e));
@@ -74,7 +73,9 @@ module _ (m t : List ℕ) where
     -- the lists at hand are those of the step's rule
     abbrev pub asked : Option Condition → Type 0
     asked o =
-        unmet (closure (M .clauses) (members state)) (conditions (ruleOf M (getD ks fired 0) .P) (ruleOf M (getD ks fired 0) .N)) ≡ o
+        unmet (closure (M .clauses) (members state))
+        (conditions (ruleOf M (getD ks fired 0) .P) (ruleOf M (getD ks fired 0) .N))
+        ≡ o
 
     module _ {table' : List ℕ} {n : ℕ} (closed : ClosesUnder (M .clauses) state table table' n) where
       -- The rule fires.
@@ -88,7 +89,8 @@ module _ (m t : List ℕ) where
             on .run
             ∙ step-fires M (stateIn state) ks fired total h u
             ∙ rw (closed .number, ← p, ← a)
-            (ap (λ (X : Facts). ahead (fired + 1) (total + rounds (M .clauses) (members state)) (reach M (record { facts = X }) (drop (fired + 1) ks)))
+            (ap (λ (X : Facts). ahead (fired + 1) (total + rounds (M .clauses) (members state))
+            (reach M (record { facts = X }) (drop (fired + 1) ks)))
             (sym (fun-ext (holds .facts))));
         bound = omega (arith, on .bound);
         within = omega arith;
@@ -98,7 +100,8 @@ module _ (m t : List ℕ) where
       }
 
       -- A condition of it is not met.
-      pub on-stop : {c : Condition} {r : Steps} → fired < length ks → asked (some c) → r .fired ≡ fired → r .rounds ≡ total + n
+      pub on-stop : {c : Condition} {r : Steps} → fired < length ks → asked (some c) → r .fired ≡ fired
+          → r .rounds ≡ total + n
           → unmetOf (r .stop) ≡ some c → n ≤ 4096
           → StepsTo m t (record { state = state₀; table = table₀ }) (record { state = state; table = table' }) r
       unfolding counted

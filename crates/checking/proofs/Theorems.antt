@@ -191,7 +191,8 @@ module _ (m t : List ℕ) (l : Lent) where
 
   -- ---- the unmet condition
 
-  -- Kind and round are those of the first unmet condition of the blocked rule or of the attack state, and no other number has any.
+  -- Kind and round are those of the first unmet condition of the blocked rule or of the attack state, and no other
+  -- number has any.
   pub kinds : Kinds m t (verdict m t l)
   unfolding refused blamed ran
   kinds =
@@ -200,9 +201,11 @@ module _ (m t : List ℕ) (l : Lent) where
       (λ w. of-run w (first-not-met w .0 .ends))
     where
       unkind : (v : Verdict) → v .number < 10 → v .kind ≡ 0 → v .round ≡ 65535 → Kinds m t v
-      unkind v low k r = record { no-kind = λ _. (k, r); of-rule = λ e. absurd (omega arith); of-goal = λ e. absurd (omega arith) }
+      unkind v low k r =
+          record { no-kind = λ _. (k, r); of-rule = λ e. absurd (omega arith); of-goal = λ e. absurd (omega arith) }
 
-      of-run : WellFormed m t l → EndsSo (modelOf m) (traceOf t .goal) (traceOf t .steps) (outcome m t) → Kinds m t (ran m t (outcome m t))
+      of-run : WellFormed m t l → EndsSo (modelOf m) (traceOf t .goal) (traceOf t .steps) (outcome m t)
+          → Kinds m t (ran m t (outcome m t))
       of-run w (so-attack e _ _) = rw e (unkind _ (omega arith) refl refl)
       of-run w (so-blocked c e h X hc u) = record {
         no-kind = λ low. absurd (omega (arith, ap numberOf e));

@@ -85,9 +85,9 @@ pub record AtFault (m t : List ℕ) (v : Verdict) : Type 0 where
 
 -- ---- the unmet condition (document 02, wish 7)
 
--- "whether the unmet one was positive or negative and, if negative, the round in which its fact arose": positive exactly
--- if the fact named is the first of P outside X, all of P before it being inside; negative exactly if all of P is inside
--- and the fact is the first of N that is
+-- "whether the unmet one was positive or negative and, if negative, the round in which its fact arose": positive
+-- exactly if the fact named is the first of P outside X, all of P before it being inside; negative exactly if all of P
+-- is inside and the fact is the first of N that is
 pub record Named (X : Facts) (P N : List ℕ) (number : ℕ → ℕ) (v : Verdict) : Type 0 where
   pub positive-is : (v .kind ≡ 1) ↔ FirstUnmet X P N (positive (v .fact))
   pub negative-is : (v .kind ≡ 2) ↔ FirstUnmet X P N (negative (v .fact))

@@ -1,5 +1,5 @@
--- What the run's own functions are told and leave, and what their answers are in the words of `meaning`. No promise to the outside rests
--- on these.
+-- What the run's own functions are told and leave, and what their answers are in the words of `meaning`. No promise to
+-- the outside rests on these.
 use Prim.Native.Nat.{ℕ, _+_, _*_, _≤_, _<_}
 use mathlib.Core.Path.{_≡_}
 use mathlib.Core.List.{List}

@@ -1,10 +1,9 @@
--- The verdict on a pair of files and what it leaves in the lent buffers (document 01, "Verdict numbers and the order", "The verdict also
--- has", "Buffers").
+-- The verdict on a pair of files and what it leaves in the lent buffers (document 01, "Verdict numbers and the order",
+-- "The verdict also has", "Buffers").
 use Prim.Native.Nat.{ℕ, _+_}
 use mathlib.Core.Path.{_≡_}
 use mathlib.Core.List.{List}
 use mathlib.Core.Option.{Option, none, some, Option·map}
-use lib.ListN.{length}
 use Rattle.meaning.specs.Model.{Model}
 use Rattle.meaning.specs.Rounds.{roundNumber}
 use Rattle.meaning.specs.Run.{Condition, Ending, Outcome, run}
@@ -31,7 +30,8 @@ pub record Lent : Type 0 where
 abbrev pub nothing : Part
 nothing = record { mark = 0; start = 0; size = 0 }
 
--- a refusal: "step .. otherwise 0", "fact .. otherwise 65,535", "rounds .. 0 for 1 to 9", "held .. 0 for 1 to 9"; no kind, no round
+-- a refusal: "step .. otherwise 0", "fact .. otherwise 65,535", "rounds .. 0 for 1 to 9", "held .. 0 for 1 to 9"; no
+-- kind, no round
 unfoldable pub refused : ℕ → Part → Verdict
 refused number part =
     record { number = number; step = 0; fact = 65535; rounds = 0; held = 0; kind = 0; round = 65535; part = part }
@@ -90,7 +90,8 @@ roundOf number attack = 65535
 roundOf number (blocked c) = roundIn number c
 roundOf number (notMet c) = roundIn number c
 
--- "9 and 10: the two bytes in the trace. 11: the attack state's record.": the blocked step's entry stands after the attack state's
+-- "9 and 10: the two bytes in the trace. 11: the attack state's record.": the blocked step's entry stands after the
+-- attack state's
 unfoldable pub partFor : List ℕ → List ℕ → ℕ → Ending → Part
 unfolding entryPart goalPart traceOf
 partFor m t step attack = nothing
@@ -126,8 +127,8 @@ verdictOf m t none = ran m t (outcome m t)
 
 -- ---- the buffers
 
--- "For 0, 10 and 11 the first 512 bytes hold the last state reached .. bits from F on are zero. The first 4,096 table entries hold that
--- state's round numbers .. Anything beyond is unchanged."
+-- "For 0, 10 and 11 the first 512 bytes hold the last state reached .. bits from F on are zero. The first 4,096 table
+-- entries hold that state's round numbers .. Anything beyond is unchanged."
 pub record Left (m : Model) (o : Outcome) (before after : Lent) : Type 0 where
   pub facts : (g : ℕ) → members (after .state) g ≡ o .state .facts g
   pub kept : Kept 512 (before .state) (after .state)

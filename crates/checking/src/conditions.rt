@@ -32,7 +32,8 @@ pub fn count(p: &[u8], n: &[u8]) -> usize
 // Condition i of two lists: P in its order and then N in its order.
 pub fn nth(p: &[u8], n: &[u8], i: usize) -> Condition
     requires { ⌜ Known (now p) × Known (now n) × (i < length (now p) / 2 + length (now n) / 2) ⌝ }
-    ensures { λ r. ⌜ conditionOf r ≡ getD (conditions (words (now (p .entry))) (words (now (n .entry)))) i (positive 0) ⌝ }
+    ensures { λ r. ⌜ conditionOf r
+        ≡ getD (conditions (words (now (p .entry))) (words (now (n .entry)))) i (positive 0) ⌝ }
 {
     let before = p.len() / 2;
     if i < before {
@@ -56,7 +57,8 @@ pub fn meets(table: &[u16], c: Condition) -> bool
 // The first unmet condition of two lists.
 pub fn first_unmet(p: &[u8], n: &[u8], table: &[u16]) -> Unmet
     requires { ⌜ Known (now p) × Known (now n) × (4096 ≤ length (now table)) ⌝ }
-    ensures { λ r. ⌜ unmetOf r ≡ unmet (numbered (now (table .entry))) (conditions (words (now (p .entry))) (words (now (n .entry)))) ⌝ }
+    ensures { λ r. ⌜ unmetOf r
+        ≡ unmet (numbered (now (table .entry))) (conditions (words (now (p .entry))) (words (now (n .entry)))) ⌝ }
 {
     let conditions = count(p, n);
     let mut i = 0;

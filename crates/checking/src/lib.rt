@@ -1,5 +1,6 @@
 // The verdict on a pair of files, and what it leaves in the lent buffers.
-// conditions: the test of conditions in a round table; stepping: how a state changes; running: the run of a judged pair.
+// conditions: the test of conditions in a round table; stepping: how a state changes; running: the run of a judged
+// pair.
 ghost use mathlib.Core.Path.{_≡_};
 ghost use Rattle.checking.specs.Verdict.{Checked, refused};
 
@@ -11,8 +12,8 @@ use files::Pair;
 use files::Part;
 use files::both;
 
-// Document 01's verdict: its number and the values that the line shows, and the part at fault. An unmet condition has a kind, 1 positive
-// or 2 negative, and a negative one the round in which its fact arose; 0 and 65,535 stand for none.
+// Document 01's verdict: its number and the values that the line shows, and the part at fault. An unmet condition has a
+// kind, 1 positive or 2 negative, and a negative one the round in which its fact arose; 0 and 65,535 stand for none.
 pub struct Verdict {
     pub number: u8,
     pub step: usize,
@@ -40,8 +41,8 @@ fn refuse(number: u8, part: Part) -> Verdict
     }
 }
 
-// The verdict on a model and a trace. A refusal leaves both buffers as they were; otherwise the first 512 bytes hold the last state
-// reached and the first 4,096 entries its round numbers.
+// The verdict on a model and a trace. A refusal leaves both buffers as they were; otherwise the first 512 bytes hold
+// the last state reached and the first 4,096 entries its round numbers.
 pub fn check(model: &[u8], trace: &[u8], state: &mut [u8], table: &mut [u16]) -> Verdict
     ensures { λ r. ⌜ Checked (now (model .entry)) (now (trace .entry))
         (record { state = now (state .entry); table = now (table .entry) })

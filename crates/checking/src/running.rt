@@ -1,5 +1,5 @@
-// The run of a judged pair: the search over the steps and their conditions for the first that is not met, and what is then asked of the
-// last state reached. The caller has judged the pair and lends buffers of enough room.
+// The run of a judged pair: the search over the steps and their conditions for the first that is not met, and what is
+// then asked of the last state reached. The caller has judged the pair and lends buffers of enough room.
 ghost use mathlib.Core.Path.{_≡_};
 ghost use mathlib.Core.Option.{none};
 ghost use Prim.Native.Nat.{ℕ, _≤_};
@@ -42,8 +42,8 @@ pub struct Ended {
     pub rounds: usize,
 }
 
-// Runs the steps from the initial state and stops at the first condition of a step's rule that is not met, P in its order and then N in
-// its order. All of a rule's conditions are judged before the state is changed.
+// Runs the steps from the initial state and stops at the first condition of a step's rule that is not met, P in its
+// order and then N in its order. All of a rule's conditions are judged before the state is changed.
 fn search(model: &[u8], trace: &[u8], state: &mut [u8], table: &mut [u16]) -> Steps
     requires { ⌜ Ready (now model) (now trace) (record { state = now state; table = now table })
         × ((g : ℕ) → members (now state) g ≡ listed (modelOf (now model) .initial) g) ⌝ }
@@ -85,7 +85,8 @@ fn search(model: &[u8], trace: &[u8], state: &mut [u8], table: &mut [u16]) -> St
 // What is asked of the last state after all steps: whether the attack state is met in the closure that the table has.
 fn ask(model: &[u8], trace: &[u8], table: &[u16]) -> Ending
     requires { ⌜ (pairFault (now model) (now trace) ≡ none) × (4096 ≤ length (now table)) ⌝ }
-    ensures { λ r. ⌜ endingOf r ≡ askedIn (modelOf (now (model .entry))) (traceOf (now (trace .entry)) .goal) (numbered (now (table .entry))) ⌝ }
+    ensures { λ r. ⌜ endingOf r ≡ askedIn (modelOf (now (model .entry))) (traceOf (now (trace .entry)) .goal)
+        (numbered (now (table .entry))) ⌝ }
 {
     let goal = held::record(
         model,
@@ -103,7 +104,8 @@ fn ask(model: &[u8], trace: &[u8], table: &[u16]) -> Ending
 // The end of a run whose steps led so: a blocked step, or what is asked of the last state, which is closed for it.
 fn finish(model: &[u8], trace: &[u8], reached: Steps, state: &[u8], table: &mut [u16]) -> Ended
     requires { ⌜ Ready (now model) (now trace) (record { state = now state; table = now table })
-        × StepsTo (now model) (now trace) (record { state = now state; table = now table }) (record { state = now state; table = now table }) reached ⌝ }
+        × StepsTo (now model) (now trace) (record { state = now state; table = now table })
+        (record { state = now state; table = now table }) reached ⌝ }
     ensures { λ r. ⌜ EndsAs (now (model .entry)) (now (trace .entry))
         (record { state = now (state .entry); table = now (table .entry) })
         (record { state = now (state .entry); table = now (table .exit) }) r ⌝ }
@@ -128,9 +130,11 @@ fn finish(model: &[u8], trace: &[u8], reached: Steps, state: &[u8], table: &mut 
 
 // The verdict of a run that ended so, with the facts held and the round numbers of the last state.
 fn verdict(model: &[u8], trace: &[u8], ended: Ended, held: usize, table: &[u16]) -> Verdict
-    requires { ⌜ (pairFault (now model) (now trace) ≡ none) × Shows (outcome (now model) (now trace)) (length (traceOf (now trace) .steps)) ended held
+    requires { ⌜ (pairFault (now model) (now trace) ≡ none)
+        × Shows (outcome (now model) (now trace)) (length (traceOf (now trace) .steps)) ended held
         × Numbers (modelOf (now model)) (outcome (now model) (now trace)) (now table) ⌝ }
-    ensures { λ r. ⌜ r ≡ ran (now (model .entry)) (now (trace .entry)) (outcome (now (model .entry)) (now (trace .entry))) ⌝ }
+    ensures { λ r. ⌜ r
+        ≡ ran (now (model .entry)) (now (trace .entry)) (outcome (now (model .entry)) (now (trace .entry))) ⌝ }
 {
     let step = ended.step;
     let rounds = ended.rounds;
@@ -176,7 +180,8 @@ fn verdict(model: &[u8], trace: &[u8], ended: Ended, held: usize, table: &[u16])
 // Runs a judged pair.
 pub fn run(model: &[u8], trace: &[u8], state: &mut [u8], table: &mut [u16]) -> Verdict
     requires { ⌜ Ready (now model) (now trace) (record { state = now state; table = now table }) ⌝ }
-    ensures { λ r. ⌜ (r ≡ ran (now (model .entry)) (now (trace .entry)) (outcome (now (model .entry)) (now (trace .entry))))
+    ensures { λ r. ⌜
+        (r ≡ ran (now (model .entry)) (now (trace .entry)) (outcome (now (model .entry)) (now (trace .entry))))
         × Left (modelOf (now (model .entry))) (outcome (now (model .entry)) (now (trace .entry)))
         (record { state = now (state .entry); table = now (table .entry) })
         (record { state = now (state .exit); table = now (table .exit) }) ⌝ }

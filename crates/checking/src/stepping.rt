@@ -11,7 +11,8 @@ ghost use Rattle.checking.specs.Stepping.{Holds};
 // Adds every fact of the bytes to the state.
 pub fn add_all(list: &[u8], state: &mut [u8])
     requires { ⌜ Known (now list) × (512 ≤ length (now state)) ⌝ }
-    ensures { λ _. ⌜ Holds (now (state .entry)) (now (state .exit)) (λ g. members (now (state .entry)) g || listed (words (now (list .entry))) g) ⌝ }
+    ensures { λ _. ⌜ Holds (now (state .entry)) (now (state .exit))
+        (λ g. members (now (state .entry)) g || listed (words (now (list .entry))) g) ⌝ }
 {
     let mut at = 0;
     while 2 <= list.len() - at {
@@ -22,7 +23,8 @@ pub fn add_all(list: &[u8], state: &mut [u8])
 
 // Removes every fact of the bytes from the state.
 pub fn remove_all(list: &[u8], state: &mut [u8])
-    ensures { λ _. ⌜ Holds (now (state .entry)) (now (state .exit)) (λ g. members (now (state .entry)) g && not (listed (words (now (list .entry))) g)) ⌝ }
+    ensures { λ _. ⌜ Holds (now (state .entry)) (now (state .exit))
+        (λ g. members (now (state .entry)) g && not (listed (words (now (list .entry))) g)) ⌝ }
 {
     let mut at = 0;
     while 2 <= list.len() - at {
@@ -44,7 +46,8 @@ pub fn begin(initial: &[u8], state: &mut [u8])
 pub fn apply(p: &[u8], a: &[u8], state: &mut [u8])
     requires { ⌜ Known (now a) × (512 ≤ length (now state)) ⌝ }
     ensures { λ _. ⌜ Holds (now (state .entry)) (now (state .exit))
-        (λ g. members (now (state .entry)) g && not (listed (words (now (p .entry))) g) || listed (words (now (a .entry))) g) ⌝ }
+        (λ g. members (now (state .entry)) g && not (listed (words (now (p .entry))) g)
+        || listed (words (now (a .entry))) g) ⌝ }
 {
     remove_all(p, state);
     add_all(a, state);

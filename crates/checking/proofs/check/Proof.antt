@@ -74,7 +74,8 @@ returns-3 c =
     let ran = c .before .before .before .before in
     let told = ran .before .before .before in
     let tested = told .before .before .before in
-    checked-run _ _ (lent (start tested)) (roomy tested) (pair-is-fine told) (ran .run .ensures .0) (ran .run .ensures .1)
+    checked-run _ _ (lent (start tested)) (roomy tested) (pair-is-fine told) (ran .run .ensures .0)
+    (ran .run .ensures .1)
 
 pub check-spec : {M : Type 1} → statement M
 check-spec =

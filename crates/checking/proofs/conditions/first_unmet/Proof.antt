@@ -11,7 +11,8 @@ use Prim.Native.Nat.{_-_}
 use native.Mathlib.Omega.{arith}
 use lib.ListN.{length}
 use Rattle.closing.specs.Closing.{numbered}
-use Rattle.checking.proofs.Looking.{Looking, looking-start, looking-hit, looking-next, looking-end, asks-known, asks-length}
+use Rattle.checking.proofs.Looking.{Looking, looking-start, looking-hit, looking-next, looking-end}
+use Rattle.checking.proofs.Looking.{asks-known, asks-length}
 use borrow.Author.Needs.{needs}
 use Rattle.checking.proofs.conditions.first_unmet.Statement.{statement}
 use Rattle.checking.proofs.conditions.first_unmet.Tie as tie
@@ -29,10 +30,12 @@ start c = c .before .before .before .before .before .before
 below : (c : tie.In-loop Inv-loop μ-loop)
     → let args = start c .args in
     let i = c .before .loop .i in
-    (i < length (now (args .p)) / 2 + length (now (args .n)) / 2) × (i < length (asks (words (now (args .p))) (words (now (args .n)))))
+    (i < length (now (args .p)) / 2 + length (now (args .n)) / 2)
+    × (i < length (asks (words (now (args .p))) (words (now (args .n)))))
 below c =
     let i = c .before .loop .i in
-    let there : i < length (now (start c .args .p)) / 2 + length (now (start c .args .n)) / 2 = omega (arith, c .before .before .count .ensures, c .loop-test .taken) in
+    let there : i < length (now (start c .args .p)) / 2 + length (now (start c .args .n)) / 2 =
+    omega (arith, c .before .before .count .ensures, c .loop-test .taken) in
     (there, rw (asks-length (now (start c .args .p)) (now (start c .args .n))) there)
 
 count-requires : tie.Need-count-requires Inv-loop μ-loop
@@ -45,7 +48,11 @@ nth-requires : tie.Need-nth-requires Inv-loop μ-loop
 nth-requires c κs = (start c .pre .0, start c .pre .1, below c .0)
 
 meets-requires : tie.Need-meets-requires Inv-loop μ-loop
-meets-requires c κs = (rw (c .nth .ensures) (asks-known _ _ _ (start (c .before) .pre .0) (start (c .before) .pre .1) (below (c .before) .0)), start (c .before) .pre .2)
+meets-requires c κs = (
+  rw (c .nth .ensures)
+      (asks-known _ _ _ (start (c .before) .pre .0) (start (c .before) .pre .1) (below (c .before) .0)),
+  start (c .before) .pre .2,
+)
 
 returns : tie.Need-returns Inv-loop μ-loop
 unfolding unmetOf
@@ -53,8 +60,8 @@ returns c =
     let n = c .before .before in
     let at = n .before in
     let l = at .before .loop .inv in
-    sym (looking-hit _ _ l (below at .1) (rw (n .nth .ensures) at (sym (c .before .meets .ensures) ∙ not-true _ (c .if1 .taken)))
-    ∙ ap some (sym (n .nth .ensures)))
+    let unmet = rw (n .nth .ensures) at (sym (c .before .meets .ensures) ∙ not-true _ (c .if1 .taken)) in
+    sym (looking-hit _ _ l (below at .1) unmet ∙ ap some (sym (n .nth .ensures)))
 
 add-i : tie.Need-add-i Inv-loop μ-loop
 add-i c = omega arith
@@ -66,11 +73,14 @@ loop-again : tie.Need-loop-again Inv-loop μ-loop
 loop-again c =
     let n = c .before .before in
     let at = n .before in
-    looking-next _ _ (at .before .loop .inv) (below at .1) (rw (n .nth .ensures) at (sym (c .before .meets .ensures) ∙ not-false _ (c .if1 .left)))
+    looking-next _ _ (at .before .loop .inv) (below at .1)
+    (rw (n .nth .ensures) at (sym (c .before .meets .ensures) ∙ not-false _ (c .if1 .left)))
 
 returns-2 : tie.Need-returns-2 Inv-loop μ-loop
 unfolding unmetOf
-returns-2 c = sym (looking-end _ _ (c .before .loop .inv) (rw (asks-length _ _) (omega (arith, c .before .before .count .ensures, c .loop-test .left))))
+returns-2 c =
+    sym (looking-end _ _ (c .before .loop .inv)
+    (rw (asks-length _ _) (omega (arith, c .before .before .count .ensures, c .loop-test .left))))
 
 pub first-unmet-spec : {M : Type 1} → statement M
 first-unmet-spec =

@@ -46,20 +46,25 @@ module _ (c : tie.After-record) where
 
   -- a list of the record, as a list of the model's attack state
   list-is : (j : ℕ) {bytes : List ℕ} → ListBytes kind.Goal (now (c .record .result)) j bytes
-      → ListBytes kind.Goal (getD (records (sectionOf (now (start (c .before) .args .model)) Goals)) (c .before .word-at .result) []) j bytes
+      → ListBytes kind.Goal
+      (getD (records (sectionOf (now (start (c .before) .args .model)) Goals)) (c .before .word-at .result) []) j bytes
   list-is j {bytes} l = subst (λ (r : List ℕ). ListBytes kind.Goal r j bytes) (c .record .ensures) l
 
   known-list : (j : ℕ) {bytes : List ℕ} → ListBytes kind.Goal (now (c .record .result)) j bytes → Known bytes
-  known-list j {bytes} l = goal-known _ (pair-shape _ _ (start (c .before) .pre .0)) (known-goal (c .before)) j bytes (list-is j l)
+  known-list j {bytes} l =
+      goal-known _ (pair-shape _ _ (start (c .before) .pre .0)) (known-goal (c .before)) j bytes (list-is j l)
 
 -- the first unmet condition of the attack state, as the table shows
 unmet-is : (c : tie.After-first-unmet)
     → let w = c .before .before .before .before in
-    unmetOf (c .first-unmet .result) ≡ unmet (numbered (now (start w .args .table))) (conditions (goalOf (M w) (goal w) .P) (goalOf (M w) (goal w) .N))
+    unmetOf (c .first-unmet .result)
+    ≡ unmet (numbered (now (start w .args .table))) (conditions (goalOf (M w) (goal w) .P) (goalOf (M w) (goal w) .N))
 unmet-is c =
     let l = c .before in
     let r = l .before .before in
-    let at : (which : Goal → List ℕ) → which (goalOf (M (r .before)) (r .before .word-at .result)) ≡ which (goalOf (M (r .before)) (goal (r .before))) =
+    let at : (which : Goal → List ℕ)
+    → which (goalOf (M (r .before)) (r .before .word-at .result))
+    ≡ which (goalOf (M (r .before)) (goal (r .before))) =
     λ which. ap (λ g. which (goalOf (M (r .before)) g)) (number-is (r .before)) in
     let P-is = goal-P _ _ (list-is r 0 (l .before .list-of .ensures)) ∙ at (λ g. g .P) in
     let N-is = goal-N _ _ (list-is r 1 (l .list-of2 .ensures)) ∙ at (λ g. g .N) in
@@ -85,7 +90,11 @@ unfolding listCount
 list-of-requires-2 c κs = (cut-of (c .before), lit< tt)
 
 first-unmet-requires : tie.Need-first-unmet-requires
-first-unmet-requires c κs = (known-list (c .before .before) 0 (c .before .list-of .ensures), known-list (c .before .before) 1 (c .list-of2 .ensures), start (c .before .before .before) .pre .1)
+first-unmet-requires c κs = (
+  known-list (c .before .before) 0 (c .before .list-of .ensures),
+  known-list (c .before .before) 1 (c .list-of2 .ensures),
+  start (c .before .before .before) .pre .1,
+)
 
 enum-told : tie.Need-enum-told
 enum-told c = search needs

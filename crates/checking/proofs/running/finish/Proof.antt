@@ -1,4 +1,5 @@
--- `running::finish` meets its contract: a blocked step ends the run, or what is asked of the last state once it is closed.
+-- `running::finish` meets its contract: a blocked step ends the run, or what is asked of the last state once it is
+-- closed.
 use native.Mathlib.Omega.{arith}
 use denote.Ref.{now}
 use Rattle.facts.specs.Facts.{members}
@@ -29,11 +30,18 @@ add-t16 c =
     let s = closed .before .before .before .before .before .before .before .before in
     let m = now (s .args .model) in
     let t = now (s .args .trace) in
-    omega (arith, s .pre .1 .bound, s .pre .1 .within, pair-few m t (s .pre .0 .fine), closed .close-judged .ensures .number,
-        rounds-few m (pair-shape m t (s .pre .0 .fine)) (members (now (s .args .state))))
+    omega (
+      arith,
+      s .pre .1 .bound,
+      s .pre .1 .within,
+      pair-few m t (s .pre .0 .fine),
+      closed .close-judged .ensures .number,
+      rounds-few m (pair-shape m t (s .pre .0 .fine)) (members (now (s .args .state))),
+    )
 
 returns : tie.Need-returns
-returns c = ends-blocked _ _ (c .before .before .before .before .before .before .before .pre .1) _ (c .before .stop .given .1)
+returns c =
+    ends-blocked _ _ (c .before .before .before .before .before .before .before .pre .1) _ (c .before .stop .given .1)
 
 same-length : tie.Need-same-length
 same-length c = search needs
@@ -43,7 +51,8 @@ returns-2 c =
     let closed = c .before .before .before .before .before in
     let told = closed .before .before in
     let s = told .before .before .before .before .before .before in
-    ends-asked _ _ (s .pre .1) (pair-shape _ _ (s .pre .0 .fine)) (told .enum-told .given .1) (closed .close-judged .ensures) (c .before .ask .ensures)
+    ends-asked _ _ (s .pre .1) (pair-shape _ _ (s .pre .0 .fine)) (told .enum-told .given .1)
+    (closed .close-judged .ensures) (c .before .ask .ensures)
 
 pub finish-spec : {M : Type 1} → statement M
 finish-spec =

@@ -1,6 +1,6 @@
 -- `running::run` meets its contract: the initial state, the steps, the end, and the verdict of it.
 use Prim.Native.Nat.{ℕ}
-use mathlib.Core.Path.{_≡_, sym, ap, _∙_, subst}
+use mathlib.Core.Path.{sym, ap, _∙_, subst}
 use mathlib.Core.List.{List}
 use native.Mathlib.Omega.{arith}
 use Rattle.sets.specs.Sets.{listed}
@@ -28,7 +28,10 @@ section-requires : tie.Need-section-requires
 section-requires c κs = pair-shape _ _ (c .before .before .before .before .pre .fine)
 
 begin-requires : tie.Need-begin-requires
-begin-requires c κs = (subst Known (sym (c .before .section .ensures)) (initial-known _ (pair-shape _ _ (start (c .before) .pre .fine))), start (c .before) .pre .room)
+begin-requires c κs = (
+  subst Known (sym (c .before .section .ensures)) (initial-known _ (pair-shape _ _ (start (c .before) .pre .fine))),
+  start (c .before) .pre .room,
+)
 
 search-requires : tie.Need-search-requires
 unfolding modelOf
@@ -36,7 +39,11 @@ search-requires c κs =
     let b = c .before .before .before .before in
     let s = start (b .before .before) in
     let began = b .begin .ensures in (
-      record { fine = s .pre .fine; room = omega (arith, began .kept .as-long, s .pre .room); entries = s .pre .entries },
+      record {
+        fine = s .pre .fine;
+        room = omega (arith, began .kept .as-long, s .pre .room);
+        entries = s .pre .entries;
+      },
       λ g. began .facts g ∙ ap (λ (l : List ℕ). listed (words l) g) (b .before .before .section .ensures),
     )
 

@@ -1,5 +1,5 @@
--- `running::search` meets its contract: at the head of the outer loop the buffers hold the state reached (`On`); along the conditions of a
--- step's rule the first unmet one is among those still ahead (`Looking`).
+-- `running::search` meets its contract: at the head of the outer loop the buffers hold the state reached (`On`); along
+-- the conditions of a step's rule the first unmet one is among those still ahead (`Looking`).
 use Rattle.checking.specs.Running.{unmetOf}
 use Prim.Native.Nat.{ℕ, _+_, _-_, _*_, _/_, _≤_, _<_}
 use mathlib.Core.Path.{_≡_, refl, sym, ap, _∙_, subst}
@@ -19,12 +19,13 @@ use Rattle.records.specs.Records.{records}
 use Rattle.records.specs.declared.Kind.the-variants as kind
 use Rattle.lists.specs.Lists.{Cut, ListBytes, listCount}
 use Rattle.sections.specs.declared.Role.the-variants.{Rules}
-use Rattle.files.specs.Files.{pairFault, shapeFault, modelOf, traceOf, entriesOf, sectionOf}
+use Rattle.files.specs.Files.{pairFault, shapeFault, modelOf, traceOf, sectionOf}
 use Rattle.files.specs.Known.{Known}
 use Rattle.files.proofs.Lists.{rule-there, rule-record, rule-known, rule-P, rule-N, rule-A}
 use Rattle.files.proofs.Traces.{pair-shape, pair-fits, pair-entries, pair-few, pair-step, pair-step-known}
 use Rattle.closing.specs.Closing.{numbered, ClosesUnder}
-use Rattle.checking.proofs.Looking.{asks, asks-length, asks-known, Looking, looking-start, looking-hit, looking-next, looking-end}
+use Rattle.checking.proofs.Looking.{asks, asks-length, asks-known, Looking, looking-start, looking-hit}
+use Rattle.checking.proofs.Looking.{looking-next, looking-end}
 use Rattle.checking.proofs.Stepwise.{closure-shown, rounds-few, asked, On, on-start, on-fired, on-stop, on-end}
 use Rattle.checking.proofs.running.search.Statement.{statement}
 use Rattle.checking.proofs.running.search.Tie as tie
@@ -36,7 +37,8 @@ abbrev μ-loop : tie.MeasureT-loop
 μ-loop model trace state table entries steps fired rounds rule p n count i₀ i = count - i
 
 abbrev Inv-search : tie.InvT-search
-Inv-search model trace state₀ table₀ entries steps fired₀ rounds₀ state table fired rounds = On model trace state₀ table₀ state table fired rounds
+Inv-search model trace state₀ table₀ entries steps fired₀ rounds₀ state table fired rounds =
+    On model trace state₀ table₀ state table fired rounds
 
 abbrev μ-search : tie.MeasureT-search
 μ-search model trace state₀ table₀ entries steps fired₀ rounds₀ state table fired rounds = steps - fired
@@ -62,7 +64,8 @@ module _ (s : tie.At-search Inv-loop μ-loop Inv-search μ-search) where
   shape : shapeFault model ≡ none
   shape = pair-shape model trace fine
 
-  abbrev on : On model trace (now (start .args .state)) (now (start .args .table)) (s .search .state) (s .search .table) (s .search .fired) (s .search .rounds)
+  abbrev on : On model trace (now (start .args .state)) (now (start .args .table)) (s .search .state) (s .search .table)
+      (s .search .fired) (s .search .rounds)
   on = s .search .inv
 
   few-steps : length ks ≤ 1024
@@ -86,11 +89,17 @@ module _ (c : tie.After-close-judged Inv-loop μ-loop Inv-search μ-search) wher
   abbrev table-of : List ℕ
   table-of = c .close-judged .last .1 .1 .0
 
-  closed : ClosesUnder (modelOf (model at-closing) .clauses) (at-closing .search .state) (at-closing .search .table) table-of (c .close-judged .result)
+  closed : ClosesUnder (modelOf (model at-closing) .clauses) (at-closing .search .state)
+      (at-closing .search .table) table-of (c .close-judged .result)
   closed = c .close-judged .ensures
 
   few-more : c .close-judged .result ≤ 4096
-  few-more = omega (arith, closed .number, rounds-few (model at-closing) (shape at-closing) (members (at-closing .search .state)))
+  few-more =
+      omega (
+        arith,
+        closed .number,
+        rounds-few (model at-closing) (shape at-closing) (members (at-closing .search .state)),
+      )
 
   step-there : at-closing .search .fired < length (ks at-closing)
   step-there = omega (arith, c .before .before .before .if1 .left, entries-size at-closing)
@@ -121,7 +130,8 @@ module _ (c : tie.After-record Inv-loop μ-loop Inv-search μ-search) where
 
   -- a list of the rule's record, as a list of the model's rule
   list-is : (j : ℕ) {bytes : List ℕ} → ListBytes kind.Rule (now (c .record .result)) j bytes
-      → ListBytes kind.Rule (getD (records (sectionOf (model (at-rule (c .before))) Rules)) (c .before .word-at .result) []) j bytes
+      → ListBytes kind.Rule
+      (getD (records (sectionOf (model (at-rule (c .before))) Rules)) (c .before .word-at .result) []) j bytes
   list-is j {bytes} l = subst (λ (r : List ℕ). ListBytes kind.Rule r j bytes) (c .record .ensures) l
 
   known-list : (j : ℕ) {bytes : List ℕ} → ListBytes kind.Rule (now (c .record .result)) j bytes → Known bytes
@@ -152,9 +162,11 @@ module _ (c : tie.In-loop Inv-loop μ-loop Inv-search μ-search) where
   abbrev lists : tie.After-list-of2 Inv-loop μ-loop Inv-search μ-search
   lists = c .before .before .before
 
-  below : (c .before .loop .i < length (P lists) / 2 + length (N lists) / 2) × (c .before .loop .i < length (asks (P lists) (N lists)))
+  below : (c .before .loop .i < length (P lists) / 2 + length (N lists) / 2)
+      × (c .before .loop .i < length (asks (P lists) (N lists)))
   below =
-      let there : c .before .loop .i < length (P lists) / 2 + length (N lists) / 2 = omega (arith, c .before .before .count .ensures, c .loop-test .taken) in
+      let there : c .before .loop .i < length (P lists) / 2 + length (N lists) / 2 =
+      omega (arith, c .before .before .count .ensures, c .loop-test .taken) in
       (there, rw (asks-length (P lists) (N lists)) there)
 
 module _ (c : tie.After-list-of3 Inv-loop μ-loop Inv-search μ-search) where
@@ -174,7 +186,8 @@ module _ (c : tie.After-list-of2 Inv-loop μ-loop Inv-search μ-search) where
 
   -- a list of the rule that the number at hand names is one of the step's rule
   rule-is : (which : Rule → List ℕ)
-      → which (ruleOf (modelOf (model here)) (word-of .word-at .result)) ≡ which (ruleOf (modelOf (model here)) (getD (ks here) (here .search .fired) 0))
+      → which (ruleOf (modelOf (model here)) (word-of .word-at .result))
+      ≡ which (ruleOf (modelOf (model here)) (getD (ks here) (here .search .fired) 0))
   rule-is which = ap (λ k. which (ruleOf (modelOf (model here)) k)) (number-is word-of)
 
   P-is : words (P c) ≡ ruleOf (modelOf (model here)) (getD (ks here) (here .search .fired) 0) .P
@@ -197,7 +210,11 @@ entries-requires c κs =
 sub-steps : tie.Need-sub-steps Inv-loop μ-loop Inv-search μ-search
 sub-steps c =
     let s = c .before .before .before .before .before in
-    omega (arith, ap length (c .entries .ensures), pair-entries (now (s .args .model)) (now (s .args .trace)) (s .pre .0 .fine))
+    omega (
+      arith,
+      ap length (c .entries .ensures),
+      pair-entries (now (s .args .model)) (now (s .args .trace)) (s .pre .0 .fine),
+    )
 
 search-holds : tie.Need-search-holds Inv-loop μ-loop Inv-search μ-search
 search-holds c = on-start _ _ _ _ (c .before .before .before .before .before .pre .1)
@@ -206,7 +223,9 @@ close-judged-requires : tie.Need-close-judged-requires Inv-loop μ-loop Inv-sear
 close-judged-requires c κs = let s = c .before .before .before in (shape s, long s)
 
 add-rounds : tie.Need-add-rounds Inv-loop μ-loop Inv-search μ-search
-add-rounds c = let s = at-closing (c .before .before) in omega (arith, on s .bound, on s .within, few-steps s, few-more (c .before .before))
+add-rounds c =
+    let s = at-closing (c .before .before) in
+    omega (arith, on s .bound, on s .within, few-steps s, few-more (c .before .before))
 
 mul-word-at : tie.Need-mul-word-at Inv-loop μ-loop Inv-search μ-search
 mul-word-at c = let s = at-closing (c .before .before) in omega (arith, on s .within, few-steps s)
@@ -215,7 +234,8 @@ add-word-at : tie.Need-add-word-at Inv-loop μ-loop Inv-search μ-search
 add-word-at c = let s = at-closing (c .before .before) in omega (arith, on s .within, few-steps s)
 
 word-at-requires : tie.Need-word-at-requires Inv-loop μ-loop Inv-search μ-search
-word-at-requires c κs = let s = at-closing (c .before .before) in omega (arith, step-there (c .before .before), entries-size s)
+word-at-requires c κs =
+    let s = at-closing (c .before .before) in omega (arith, step-there (c .before .before), entries-size s)
 
 record-requires : tie.Need-record-requires Inv-loop μ-loop Inv-search μ-search
 record-requires c κs = (shape (at-rule c), rule-there _ (known-rule c))
@@ -253,20 +273,25 @@ loop-again : tie.Need-loop-again Inv-loop μ-loop Inv-search μ-search
 loop-again c =
     let l = c .before .before .before .before in
     let nth = c .before .before .before .nth .ensures in
-    looking-next _ _ (l .before .loop .inv) (below l .1) (rw nth at (sym (c .before .meets .ensures) ∙ not-false _ (c .if2 .left)))
+    looking-next _ _ (l .before .loop .inv) (below l .1)
+    (rw nth at (sym (c .before .meets .ensures) ∙ not-false _ (c .if2 .left)))
 
 list-of-requires-3 : tie.Need-list-of-requires-3 Inv-loop μ-loop Inv-search μ-search
 unfolding listCount
 list-of-requires-3 c κs = (cut-of (c .before .before .before .before .before), lit< tt)
 
 apply-requires : tie.Need-apply-requires Inv-loop μ-loop Inv-search μ-search
-apply-requires c κs = (known-A (c .before), room (at-rule (c .before .before .before .before .before .before .before .before)))
+apply-requires c κs =
+    (known-A (c .before), room (at-rule (c .before .before .before .before .before .before .before .before)))
 
 add-fired : tie.Need-add-fired Inv-loop μ-loop Inv-search μ-search
-add-fired c = let l = lists-3 (c .before .before .before .before) in let s = here l in omega (arith, on s .within, few-steps s)
+add-fired c =
+    let l = lists-3 (c .before .before .before .before) in let s = here l in omega (arith, on s .within, few-steps s)
 
 search-less : tie.Need-search-less Inv-loop μ-loop Inv-search μ-search
-search-less c = let l = lists-3 (c .before .before .before .before) in omega (arith, step-there (closing-of (word-of l)), entries-size (here l))
+search-less c =
+    let l = lists-3 (c .before .before .before .before) in
+    omega (arith, step-there (closing-of (word-of l)), entries-size (here l))
 
 search-again : tie.Need-search-again Inv-loop μ-loop Inv-search μ-search
 search-again c =
@@ -274,8 +299,11 @@ search-again c =
     let l = lists-3 a in
     let k = closing-of (word-of l) in
     let done = a .before in
-    let none-left = looking-end (P l) (N l) (done .before .loop .inv) (rw (asks-length (P l) (N l)) (omega (arith, done .before .before .count .ensures, done .loop-test .left))) in
-    on-fired (model (here l)) (trace (here l)) (on (here l)) (closed k) (step-there k) (asked-is l none none-left) (few-more k) (P-is l)
+    let none-left =
+    looking-end (P l) (N l) (done .before .loop .inv)
+    (rw (asks-length (P l) (N l)) (omega (arith, done .before .before .count .ensures, done .loop-test .left))) in
+    on-fired (model (here l)) (trace (here l)) (on (here l)) (closed k) (step-there k) (asked-is l none none-left)
+    (few-more k) (P-is l)
     (rule-A _ _ (list-is (record-of l) 2 (a .list-of3 .ensures)) ∙ rule-is l (λ r. r .A))
     (c .before .before .apply .ensures)
 
@@ -304,8 +332,11 @@ returns-2 c =
     let l = lists at in
     let k = closing-of (word-of l) in
     let nth = c .before .before .before .nth .ensures in
-    let hit = looking-hit (P l) (N l) (at .before .loop .inv) (below at .1) (rw nth at (sym (c .before .meets .ensures) ∙ not-true _ (c .if2 .taken))) in
-    on-stop _ _ (on (here l)) (closed k) (step-there k) (asked-is l _ (hit ∙ ap some (sym nth))) refl refl refl (few-more k)
+    let hit =
+    looking-hit (P l) (N l) (at .before .loop .inv) (below at .1)
+    (rw nth at (sym (c .before .meets .ensures) ∙ not-true _ (c .if2 .taken))) in
+    on-stop _ _ (on (here l)) (closed k) (step-there k) (asked-is l _ (hit ∙ ap some (sym nth))) refl refl refl
+    (few-more k)
 
 pub search-spec : {M : Type 1} → statement M
 search-spec =

@@ -55,10 +55,14 @@ round-of-requires c κs =
     (known-blocked s _ (told .ending .given .1), s .pre .2 .long)
 
 add-entry-part : tie.Need-add-entry-part
-add-entry-part c = let s = c .before .before .before .before .before .before .before .before .before in omega (arith, s .pre .1 .within, pair-few _ _ (s .pre .0))
+add-entry-part c =
+    let s = c .before .before .before .before .before .before .before .before .before in
+    omega (arith, s .pre .1 .within, pair-few _ _ (s .pre .0))
 
 entry-part-requires : tie.Need-entry-part-requires
-entry-part-requires c κs = let s = c .before .before .before .before .before .before .before .before .before in omega (arith, s .pre .1 .within, pair-few _ _ (s .pre .0))
+entry-part-requires c κs =
+    let s = c .before .before .before .before .before .before .before .before .before in
+    omega (arith, s .pre .1 .within, pair-few _ _ (s .pre .0))
 
 enum-known-ending-2 : tie.Need-enum-known-ending-2
 enum-known-ending-2 c = search needs
@@ -76,7 +80,8 @@ round-of-requires-2 c κs =
     (known-notMet s _ (told .ending2 .given .1), s .pre .2 .long)
 
 entries-requires : tie.Need-entries-requires
-entries-requires c κs = pair-fits _ _ (c .before .before .before .before .before .before .before .before .before .pre .0)
+entries-requires c κs =
+    pair-fits _ _ (c .before .before .before .before .before .before .before .before .before .pre .0)
 
 word-at-requires : tie.Need-word-at-requires
 word-at-requires c κs =
@@ -86,8 +91,10 @@ word-at-requires c κs =
 goal-part-requires : tie.Need-goal-part-requires
 goal-part-requires c κs =
     let s = start c in
-    let m = modelOf (now (s .args .model)) in
-    (pair-shape _ _ (s .pre .0), goal-there _ (subst (λ g. g < length (m .goals)) (sym (number-is c)) (pair-goal-known _ _ (s .pre .0))))
+    let m = modelOf (now (s .args .model)) in (
+      pair-shape _ _ (s .pre .0),
+      goal-there _ (subst (λ g. g < length (m .goals)) (sym (number-is c)) (pair-goal-known _ _ (s .pre .0))),
+    )
 
 returns : tie.Need-returns
 returns c = let s = c .before .before .before .before .before in ran-attack _ _ _ _ (s .pre .1) (c .enum-told .given .1)

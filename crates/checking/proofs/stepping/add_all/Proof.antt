@@ -29,7 +29,14 @@ abbrev μ-loop : tie.MeasureT-loop
 μ-loop list state₀ at₀ state at = length list - at
 
 loop-holds : tie.Need-loop-holds Inv-loop μ-loop
-loop-holds c = record { within = omega arith; room = c .before .before .pre .1; known = c .before .before .pre .0 .facts; kept = kept-same _; facts = λ g. refl }
+loop-holds c =
+    record {
+      within = omega arith;
+      room = c .before .before .pre .1;
+      known = c .before .before .pre .0 .facts;
+      kept = kept-same _;
+      facts = λ g. refl;
+    }
 
 sub-loop : tie.Need-sub-loop Inv-loop μ-loop
 sub-loop c = omega arith
@@ -54,16 +61,20 @@ loop-again c =
     let at = loop .loop .at in
     let here = known-here list at (omega arith) (loop .loop .inv .known) in
     let added = c .before .before .add .ensures in
-    let one : (g : ℕ) → members (c .before .before .add .last .0) g ≡ (members (loop .loop .state) g || eqb g (word (drop at list))) =
+    let state = loop .loop .state in
+    let next = c .before .before .add .last .0 in
+    let fact = c .before .before .before .word-at in
+    let one : (g : ℕ) → members next g ≡ (members state g || eqb g (word (drop at list))) =
     λ g. added .set g
-    ∙ rw (room-in 512 (loop .loop .state) (c .before .before .before .word-at .result) (omega (arith, c .before .before .before .word-at .ensures)), ← c .before .before .before .word-at .ensures)
-    (ap (λ (b : Bool). members (loop .loop .state) g || b) (and-true _)) in
+    ∙ rw (room-in 512 state (fact .result) (omega (arith, fact .ensures)), ← fact .ensures)
+    (ap (λ (b : Bool). members state g || b) (and-true _)) in
+    let done = done-one _||_ add-idle add-twice list state next at (omega arith) one in
     record {
       within = omega arith;
       room = omega (arith, added .kept .as-long);
       known = here .1;
       kept = kept-trans (loop .loop .inv .kept) (added .kept);
-      facts = λ g. done-one _||_ add-idle add-twice list (loop .loop .state) (c .before .before .add .last .0) at (omega arith) one g ∙ loop .loop .inv .facts g;
+      facts = λ g. done g ∙ loop .loop .inv .facts g;
     }
 
 same-length : tie.Need-same-length Inv-loop μ-loop
@@ -73,12 +84,14 @@ returns : tie.Need-returns Inv-loop μ-loop
 returns c =
     let loop = c .before .loop in
     let list = now (c .before .before .before .before .args .list) in
+    let done = done-all _||_ add-idle add-twice list (loop .state) (loop .at) (omega arith) in
     record {
-      facts = λ g. sym (done-all _||_ add-idle add-twice list (loop .state) (loop .at) (omega arith) g) ∙ loop .inv .facts g;
+      facts = λ g. sym (done g) ∙ loop .inv .facts g;
       kept = loop .inv .kept;
     }
 
 pub add-all-spec : {M : Type 1} → statement M
 add-all-spec =
     tie.close
-    (tie.spec Inv-loop μ-loop loop-holds sub-loop word-at-requires add-requires add-at loop-less loop-again same-length returns)
+    (tie.spec Inv-loop μ-loop loop-holds sub-loop word-at-requires add-requires add-at loop-less loop-again same-length
+    returns)

@@ -1,4 +1,5 @@
--- `remove_all` meets its contract: what the facts that are left would remove, and what was removed, is what all of them remove.
+-- `remove_all` meets its contract: what the facts that are left would remove, and what was removed, is what all of them
+-- remove.
 use Prim.Native.Nat.{ℕ, _-_, _≤_}
 use mathlib.Core.Path.{_≡_, refl, sym, _∙_}
 use mathlib.Core.Bool.{Bool, not, _&&_}
@@ -18,7 +19,8 @@ use Rattle.checking.proofs.stepping.remove_all.Tie as tie
 record Inv (list state₀ state : List ℕ) (at : ℕ) : Type 0 where
   within : at ≤ length list
   kept : Kept 512 state₀ state
-  facts : (g : ℕ) → (members state g && not (listed (words (drop at list)) g)) ≡ (members state₀ g && not (listed (words list) g))
+  facts : (g : ℕ)
+      → (members state g && not (listed (words (drop at list)) g)) ≡ (members state₀ g && not (listed (words list) g))
 
 -- what a fact of the list does to a membership
 abbrev without : Bool → Bool → Bool
@@ -53,12 +55,16 @@ loop-again c =
     let loop = c .before .before .before .before .before .before in
     let list = now (loop .before .before .before .args .list) in
     let removed = c .before .before .remove .ensures in
-    let one : (g : ℕ) → members (c .before .before .remove .last .0) g ≡ without (members (loop .loop .state) g) (eqb g (word (drop (loop .loop .at) list))) =
+    let state = loop .loop .state in
+    let next = c .before .before .remove .last .0 in
+    let at = loop .loop .at in
+    let one : (g : ℕ) → members next g ≡ without (members state g) (eqb g (word (drop at list))) =
     λ g. removed .set g ∙ rw (← c .before .before .before .word-at .ensures) in
+    let done = done-one without remove-idle remove-twice list state next at (omega arith) one in
     record {
       within = omega arith;
       kept = kept-trans (loop .loop .inv .kept) (removed .kept);
-      facts = λ g. done-one without remove-idle remove-twice list (loop .loop .state) (c .before .before .remove .last .0) (loop .loop .at) (omega arith) one g ∙ loop .loop .inv .facts g;
+      facts = λ g. done g ∙ loop .loop .inv .facts g;
     }
 
 same-length : tie.Need-same-length Inv-loop μ-loop
@@ -68,12 +74,14 @@ returns : tie.Need-returns Inv-loop μ-loop
 returns c =
     let loop = c .before .loop in
     let list = now (c .before .before .before .before .args .list) in
+    let done = done-all without remove-idle remove-twice list (loop .state) (loop .at) (omega arith) in
     record {
-      facts = λ g. sym (done-all without remove-idle remove-twice list (loop .state) (loop .at) (omega arith) g) ∙ loop .inv .facts g;
+      facts = λ g. sym (done g) ∙ loop .inv .facts g;
       kept = loop .inv .kept;
     }
 
 pub remove-all-spec : {M : Type 1} → statement M
 remove-all-spec =
     tie.close
-    (tie.spec Inv-loop μ-loop loop-holds sub-loop word-at-requires remove-requires add-at loop-less loop-again same-length returns)
+    (tie.spec Inv-loop μ-loop loop-holds sub-loop word-at-requires remove-requires add-at loop-less loop-again
+    same-length returns)

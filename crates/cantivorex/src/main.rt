@@ -1,5 +1,6 @@
-// The program: reads case.model and case.trace in the working folder and prints the verdict's line. A missing file counts as empty. A
-// file that cannot be opened or read to its end gives no line: standard error says which, so that it can't pass for a shorter file.
+// The program: reads case.model and case.trace in the working folder and prints the verdict's line. A missing file
+// counts as empty. A file that cannot be opened or read to its end gives no line: standard error says which, so that it
+// can't pass for a shorter file.
 ghost use Rattle.io.specs.Counts.{Counts};
 use checking::Verdict;
 use libc::ENOENT;

@@ -1,4 +1,5 @@
--- `fill` counts the bytes of its buffer. The loop's invariant: it is within the buffer, whose length stays. The measure is the room left.
+-- `fill` counts the bytes of its buffer. The loop's invariant: it is within the buffer, whose length stays. The measure
+-- is the room left.
 use Rattle.io.proofs.Counting.{counts}
 use Prim.Native.Nat.{_≤_, _-_}
 use mathlib.Core.Path.{_≡_}

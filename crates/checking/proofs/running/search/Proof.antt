@@ -235,7 +235,8 @@ add-word-at c = let s = at-closing (c .before .before) in omega (arith, on s .wi
 
 word-at-requires : tie.Need-word-at-requires Inv-loop μ-loop Inv-search μ-search
 word-at-requires c κs =
-    let s = at-closing (c .before .before) in omega (arith, step-there (c .before .before), entries-size s)
+    let s = at-closing (c .before .before) in
+    omega (arith, step-there (c .before .before), entries-size s)
 
 record-requires : tie.Need-record-requires Inv-loop μ-loop Inv-search μ-search
 record-requires c κs = (shape (at-rule c), rule-there _ (known-rule c))
@@ -286,7 +287,8 @@ apply-requires c κs =
 
 add-fired : tie.Need-add-fired Inv-loop μ-loop Inv-search μ-search
 add-fired c =
-    let l = lists-3 (c .before .before .before .before) in let s = here l in omega (arith, on s .within, few-steps s)
+    let s = here (lists-3 (c .before .before .before .before)) in
+    omega (arith, on s .within, few-steps s)
 
 search-less : tie.Need-search-less Inv-loop μ-loop Inv-search μ-search
 search-less c =

@@ -17,13 +17,15 @@ use Rattle.exports.proofs.Fronts.{stored}
 -- ---- the verdict
 
 -- without room for it
-pub no-verdict : (m t : List ℕ) (l : Lent) (out : List ℕ) → length out < 10 → ChecksOut (shorter out 10) m t l l out out 1
+pub no-verdict : (m t : List ℕ) (l : Lent) (out : List ℕ) → length out < 10
+    → ChecksOut (shorter out 10) m t l l out out 1
 unfolding shorter ChecksOut
 no-verdict m t l out short = rw (lt-ltb _ _ short) (refl, refl, refl)
 
 -- with room, its values are written
 pub some-verdict : (m t : List ℕ) (before after : Lent) (out out' : List ℕ) (v : Verdict) → 10 ≤ length out
-    → Checked m t before after v → out' ≡ over (values v) out → ChecksOut (shorter out 10) m t before after out out' (v .number)
+    → Checked m t before after v → out' ≡ over (values v) out
+    → ChecksOut (shorter out 10) m t before after out out' (v .number)
 unfolding shorter ChecksOut
 some-verdict m t before after out out' v room checked written =
     rw (le-ltb _ _ room)

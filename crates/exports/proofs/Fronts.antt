@@ -20,7 +20,8 @@ front bytes out i = take i bytes ++ drop i out
 
 module _ (bytes out : List ℕ) where
   -- one byte more is copied
-  pub copied : (i : ℕ) → i < length bytes → i < length out → set (front bytes out i) i (getD bytes i 0) ≡ front bytes out (i + 1)
+  pub copied : (i : ℕ) → i < length bytes → i < length out
+      → set (front bytes out i) i (getD bytes i 0) ≡ front bytes out (i + 1)
   copied i more room = rw add-one (simp zero-add at (paste-suc out 0 bytes i 0 (omega arith) more))
 
   -- every byte is copied

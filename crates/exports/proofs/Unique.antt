@@ -32,7 +32,8 @@ module _ (m state table t₁ t₂ out o₁ o₂ : List ℕ) (r₁ r₂ : ℕ) wh
   closes-unique true x y = (x .0 ∙ sym (y .0), x .1 ∙ sym (y .1), x .2 ∙ sym (y .2))
   closes-unique false x y = (
     x .number ∙ sym (y .number),
-    table-unique (closeRefusal m state table) (modelOf m .clauses) (members state) table t₁ t₂ (x .entries) (y .entries),
+    table-unique (closeRefusal m state table) (modelOf m .clauses) (members state) table t₁ t₂ (x .entries)
+        (y .entries),
     x .rounds ∙ sym (y .rounds),
   )
 

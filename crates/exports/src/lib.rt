@@ -1,5 +1,5 @@
-// The library for C and Rust: three functions on numbers and slices. None has a requires; that the areas lent are there is the caller's to see to.
-// include/cantivorex.h declares them for C.
+// The library for C and Rust: three functions on numbers and slices. None has a requires; that the areas lent are there
+// is the caller's to see to. include/cantivorex.h declares them for C.
 ghost use Prim.Native.Nat.{_≤_};
 ghost use mathlib.Core.Path.{_≡_};
 ghost use lib.ListN.{length};
@@ -28,8 +28,8 @@ fn put(v: Verdict, out: &mut [u64])
     out[9] = part.size as u64;
 }
 
-// The verdict on a model and a trace: its number, and its ten values at the front of `out`. Without room for them the answer
-// is 1 and nothing is changed.
+// The verdict on a model and a trace: its number, and its ten values at the front of `out`. Without room for them the
+// answer is 1 and nothing is changed.
 #[no_mangle]
 pub extern "C" fn cantivorex_check(
     model: &[u8],
@@ -50,8 +50,8 @@ pub extern "C" fn cantivorex_check(
     v.number
 }
 
-// Closing by itself: 0, with the number of rounds in the first entry of `out`, or a refusal's number, with nothing changed. Without
-// room for the rounds the answer is 1.
+// Closing by itself: 0, with the number of rounds in the first entry of `out`, or a refusal's number, with nothing
+// changed. Without room for the rounds the answer is 1.
 #[no_mangle]
 pub extern "C" fn cantivorex_close(
     model: &[u8],
@@ -85,8 +85,8 @@ fn copy(bytes: &[u8], out: &mut [u8])
     }
 }
 
-// The bytes at a place of the file marked, as far as the file has them: their number, and they at the front of `out` as far as
-// it has room.
+// The bytes at a place of the file marked, as far as the file has them: their number, and they at the front of `out` as
+// far as it has room.
 #[no_mangle]
 pub extern "C" fn cantivorex_part<'a>(
     model: &'a [u8],
@@ -96,7 +96,8 @@ pub extern "C" fn cantivorex_part<'a>(
     size: usize,
     out: &mut [u8],
 ) -> usize
-    ensures { λ r. ⌜ PartOut (partOf (now (model .entry)) (now (trace .entry)) (record { mark = mark; start = start; size = size }))
+    ensures { λ r. ⌜ PartOut
+        (partOf (now (model .entry)) (now (trace .entry)) (record { mark = mark; start = start; size = size }))
         (now (out .entry)) (now (out .exit)) r ⌝ }
 {
     let at = Part { mark, start, size };

@@ -33,7 +33,8 @@ returns-2 c =
     let closed = c .before .before .before .before .before in
     let room = closed .before .before in
     let s = room .before .before .before .before .before in
-    some-rounds (now (s .args .model)) (now (s .args .state)) (now (s .args .table)) _ (now (s .args .out)) _ _ (room .if1 .left) (closed .close .ensures) (c .before .n .given .1)
+    some-rounds (now (s .args .model)) (now (s .args .state)) (now (s .args .table)) _ (now (s .args .out)) _ _
+    (room .if1 .left) (closed .close .ensures) (c .before .n .given .1)
 
 same-length-3 : tie.Need-same-length-3
 same-length-3 c = search needs
@@ -43,7 +44,8 @@ returns-3 c =
     let closed = c .before .before .before .before .before in
     let room = closed .before .before in
     let s = room .before .before .before .before .before in
-    refused (now (s .args .model)) (now (s .args .state)) (now (s .args .table)) _ (now (s .args .out)) _ _ (room .if1 .left) (closed .close .ensures) (c .before .number .given .1)
+    refused (now (s .args .model)) (now (s .args .state)) (now (s .args .table)) _ (now (s .args .out)) _ _
+    (room .if1 .left) (closed .close .ensures) (c .before .number .given .1)
 
 pub cantivorex-close-spec : {M : Type 1} → statement M
 cantivorex-close-spec =

@@ -22,7 +22,10 @@ returns : tie.Need-returns
 returns c =
     let s = c .before .before .before .before .before .before .before .before in
     let cut = c .before .before .before .before .part .ensures in
-    record { count = ap length cut; bytes = c .before .before .copy .ensures ∙ ap (λ (l : List ℕ). over l (now (s .args .out))) cut }
+    record {
+      count = ap length cut;
+      bytes = c .before .before .copy .ensures ∙ ap (λ (l : List ℕ). over l (now (s .args .out))) cut;
+    }
 
 pub cantivorex-part-spec : {M : Type 1} → statement M
 cantivorex-part-spec = tie.close (tie.spec part-requires copy-requires same-length returns)

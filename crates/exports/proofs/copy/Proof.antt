@@ -10,7 +10,8 @@ use Rattle.exports.proofs.copy.Statement.{statement}
 use Rattle.exports.proofs.copy.Tie as tie
 
 abbrev Inv-loop : tie.InvT-loop
-Inv-loop bytes out₀ i₀ out i = (i ≤ length bytes) × (i ≤ length out₀) × (out ≡ front bytes out₀ i) × (length out ≡ length out₀)
+Inv-loop bytes out₀ i₀ out i =
+    (i ≤ length bytes) × (i ≤ length out₀) × (out ≡ front bytes out₀ i) × (length out ≡ length out₀)
 
 abbrev μ-loop : tie.MeasureT-loop
 μ-loop bytes out₀ i₀ out i = length bytes - i
@@ -36,8 +37,12 @@ loop-again c =
     let args = loop .before .args in
     let i = loop .loop .i in
     let inside : i < length (loop .loop .out) = ltb-true _ _ (c .before .if1 .taken) in
-    let room : i < length (now (args .out)) = omega (arith, loop .loop .inv .3) in
-    (omega arith, omega arith, rw (loop .loop .inv .2) (copied (now (args .bytes)) (now (args .out)) i (omega arith) room), simp length-set (loop .loop .inv .3))
+    let room : i < length (now (args .out)) = omega (arith, loop .loop .inv .3) in (
+      omega arith,
+      omega arith,
+      rw (loop .loop .inv .2) (copied (now (args .bytes)) (now (args .out)) i (omega arith) room),
+      simp length-set (loop .loop .inv .3),
+    )
 
 same-length : tie.Need-same-length Inv-loop μ-loop
 same-length c = c .before .before .loop .inv .3
@@ -47,7 +52,8 @@ returns c =
     let loop = c .before .before .loop in
     let args = c .before .before .before .args in
     let full : length (loop .out) ≤ loop .i = ltb-false _ _ (c .if1 .left) in
-    loop .inv .2 ∙ copied-full (now (args .bytes)) (now (args .out)) (loop .i) (loop .inv .0) (omega (arith, loop .inv .3))
+    loop .inv .2
+    ∙ copied-full (now (args .bytes)) (now (args .out)) (loop .i) (loop .inv .0) (omega (arith, loop .inv .3))
 
 same-length-2 : tie.Need-same-length-2 Inv-loop μ-loop
 same-length-2 c = c .before .loop .inv .3
@@ -61,4 +67,5 @@ returns-2 c =
 pub copy-spec : {M : Type 1} → statement M
 copy-spec =
     tie.close
-    (tie.spec Inv-loop μ-loop loop-holds shared-slice-read-out slice-write-out add-i loop-less loop-again same-length returns same-length-2 returns-2)
+    (tie.spec Inv-loop μ-loop loop-holds shared-slice-read-out slice-write-out add-i loop-less loop-again same-length
+    returns same-length-2 returns-2)

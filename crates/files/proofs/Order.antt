@@ -8,8 +8,8 @@ use mathlib.Core.Option.{Option, none, some, Option·some-ne-none}
 use native.Mathlib.Numerals.{add-one}
 use native.Mathlib.Omega.{arith}
 use lib.Dec.{leb, ltb, eqb, lit<}
-use lib.ListN.{length, drop, getD, length-map, drop-of-length-le}
-use lib.Seq.{drop-cons}
+use lib.ListN.{length, take, drop, getD, length-map, drop-of-length-le}
+use lib.Seq.{drop-cons, getD-take}
 use borrow.Author.Tests.{lt-ltb, le-ltb, leb-false, ltb-false, eqb-true, not-false}
 use Rattle.sets.specs.Sets.{any, _∈_}
 use Rattle.sets.proofs.Laws.{is-false, fails, any-intro}
@@ -21,7 +21,8 @@ use Rattle.sections.specs.Answers.{passed}
 use Rattle.sections.specs.declared.Passed.{Passed}
 use Rattle.sections.specs.declared.Role.{Role}
 use Rattle.sections.specs.declared.Role.the-variants.{Sizes, Goals}
-use Rattle.sections.proofs.Fits.{neither, not-given}
+use Rattle.sections.proofs.Fits.{neither, not-given, section-fine}
+use Rattle.sections.proofs.Parts.{Ended, fit-ended, ended-bytes, ended-size}
 use Rattle.sections.proofs.Answers.{passed-to, passed-fault, or-first, or-next}
 use Rattle.files.specs.Files.{roles, tag, indexOf, placeOfRole, sectionOf, factCount, ruleIn, goalIn, modelOf, faultFrom, shapeFault}
 use Rattle.files.specs.Answers.{countsOf, noted, notedFrom}
@@ -29,30 +30,36 @@ use Rattle.files.specs.declared.Counts.{Counts}
 
 -- ---- the sections in order
 
--- Judging has come to section i, at a place, with counts: the model's first fault and its counts are those from here on.
-pub record Onward (file : List ℕ) (i at : ℕ) (n : Counts) : Type 0 where
-  pub fault : shapeFault file ≡ faultFrom (drop i roles) (factCount file) file at
+-- Judging with F facts has come to section i, at a place, with counts: the model's first fault and its counts are those from here on.
+pub record Onward (file : List ℕ) (F i at : ℕ) (n : Counts) : Type 0 where
+  pub fault : shapeFault file ≡ faultFrom (drop i roles) F file at
   pub counts : countsOf file ≡ notedFrom (drop i roles) file at n
 
-module _ (file : List ℕ) where
-  -- The sizes are fine: it comes to the next section.
-  pub onward-start : {at : ℕ} → inSection (reader Sizes (factCount file)) file 1 ≡ none → at ≡ endAt file 1
-      → Onward file 1 at (record { rules = 0; goals = 0 })
-  unfolding shapeFault faultFrom roles sectionAt countsOf notedFrom noted entries modelOf sectionOf placeOfRole indexOf tag
-  onward-start fine e = record {
-    fault = rw e (or-next _ _ fine);
-    counts = rw (e, length-map, length-map);
+module _ (file : List ℕ) (F : ℕ) where
+  -- The sizes are judged without F; so an F that is the model's where they are fine finds the same first fault.
+  by-facts : (x : Option Fault) (rest : ℕ → Option Fault) → (x ≡ none → F ≡ factCount file)
+      → (x orElse rest (factCount file)) ≡ (x orElse rest F)
+  unfolding _orElse_
+  by-facts none rest told = ap rest (sym (told refl))
+  by-facts (some f) rest told = refl
+
+  -- It starts with the sizes.
+  pub onward-start : (inSection (reader Sizes F) file 1 ≡ none → F ≡ factCount file) → Onward file F 0 1 (record { rules = 0; goals = 0 })
+  unfolding shapeFault faultFrom roles sectionAt countsOf notedFrom noted entries modelOf sectionOf placeOfRole indexOf tag reader inSection
+  onward-start told = record {
+    fault = by-facts (inSection (reader Sizes F) file 1) (λ k. faultFrom (drop 1 roles) k file (endAt file 1)) told;
+    counts = rw (length-map, length-map);
   }
 
-  module _ {i at : ℕ} {n : Counts} (on : Onward file i at n) where
+  module _ {i at : ℕ} {n : Counts} (on : Onward file F i at n) where
     module _ {r : Passed} (h : i < length roles)
-        (is : r ≡ passed (inSection (reader (getD roles i Goals) (factCount file)) file at) (endAt file at)
+        (is : r ≡ passed (inSection (reader (getD roles i Goals) F) file at) (endAt file at)
             (entries (getD roles i Goals) (payload file at))) where
       here : drop i roles ≡ getD roles i Goals ∷ drop (suc i) roles
       here = drop-cons roles i Goals h
 
       -- The section is fine: it comes to the next one.
-      pub onward-next : {end count : ℕ} → r ≡ Passed.To end count → Onward file (i + 1) end (noted n (getD roles i Goals) count)
+      pub onward-next : {end count : ℕ} → r ≡ Passed.To end count → Onward file F (i + 1) end (noted n (getD roles i Goals) count)
       unfolding faultFrom notedFrom
       onward-next told =
           let (fine, ends, counts) = passed-to _ _ _ _ _ is told in
@@ -92,6 +99,18 @@ unfolding sizes
 sizes-fine bytes e =
     let (two, small) = neither (given (not (eqb (length bytes) 2)) 4) (given (ltb 4096 (word bytes)) 5) e in
     (eqb-true _ _ (not-false _ (not-given _ _ two)), ltb-false _ _ (not-given _ _ small))
+
+-- In a file whose sizes are fine F is the number in its bytes 5 and 6.
+pub facts-there : (F : ℕ) (file : List ℕ) → inSection (reader Sizes F) file 1 ≡ none
+    → (7 ≤ length file) × (word (drop 5 file) ≡ factCount file)
+unfolding reader factCount sectionOf placeOfRole indexOf roles tag sectionAt word
+facts-there F file e =
+    let (fit, fine) = section-fine (reader Sizes F) file 1 e in
+    let (two, small) = sizes-fine (payload file 1) (all-fine (sizes (payload file 1)) _ fine) in
+    let ended = fit-ended file 1 fit in
+    let ends : endAt file 1 ≡ 7 = omega (arith, ended-size file 1 _ ended) in
+    let bytes : take 2 (drop 5 file) ≡ payload file 1 = rw ends at (ended-bytes file 1 _ ended) in
+    (omega arith, rw (← bytes, getD-take 2 (drop 5 file) 0 0 (lit< tt), getD-take 2 (drop 5 file) 1 0 (lit< tt)))
 
 -- Bare numbers with no fault leave no byte over,
 pub bare-even : (F : ℕ) (bytes : List ℕ) → bare F bytes ≡ none → odd bytes ≡ false

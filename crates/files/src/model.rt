@@ -1,9 +1,8 @@
 // A model's faults, in document 01's order.
 ghost use mathlib.Core.Path.{_≡_};
 ghost use mathlib.Core.Option.{none};
-ghost use Prim.Native.Nat.{_≤_};
-ghost use lib.ListN.{length, getD, drop};
-ghost use Rattle.sections.specs.Sections.{endAt, inSection, reader};
+ghost use lib.ListN.{getD};
+ghost use Rattle.sections.specs.Sections.{inSection, reader};
 ghost use Rattle.sections.specs.declared.Role.{Role};
 ghost use Rattle.files.specs.Files.{roles, indexOf, factCount, shapeFault, modelFault};
 ghost use Rattle.files.specs.Answers.{countsOf, judged, noted};
@@ -62,14 +61,24 @@ fn note(counts: Counts, role: Role, count: usize) -> Counts
     }
 }
 
-// The sections after the sizes, which end at a place and are fine, and what stands after the last.
-fn judge_rest(model: &[u8], first: usize, facts: usize) -> Judged
-    requires { ⌜ (inSection (reader Role.Sizes facts) (now model) 1 ≡ none) × (first ≡ endAt (now model) 1) × (facts ≡ factCount (now model)) ⌝ }
+// F as the sizes have it, where they are fine. Judging them asks for no F.
+fn facts_told(model: &[u8]) -> usize
+    ensures { λ r. ⌜ (inSection (reader Role.Sizes r) (now (model .entry)) 1 ≡ none → r ≡ factCount (now (model .entry))) ⌝ }
+{
+    if model.len() < 7 {
+        return 0;
+    }
+    records::word_at(model, 5)
+}
+
+// The model's first fault of 4 to 7, or its counts.
+pub fn judge_shape(model: &[u8]) -> Judged
     ensures { λ r. ⌜ r ≡ judged (shapeFault (now (model .entry))) (countsOf (now (model .entry))) ⌝ }
 {
+    let facts = facts_told(model);
     let mut counts = Counts { rules: 0, goals: 0 };
-    let mut at = first;
-    let mut i = 1;
+    let mut at = 1;
+    let mut i = 0;
     while i < SECTIONS {
         let role = role_at(i);
         match sections::judge_section(model, at, role, facts) {
@@ -90,19 +99,6 @@ fn judge_rest(model: &[u8], first: usize, facts: usize) -> Judged
         });
     }
     Judged::Fine(counts)
-}
-
-// The model's first fault of 4 to 7, or its counts.
-pub fn judge_shape(model: &[u8]) -> Judged
-    ensures { λ r. ⌜ r ≡ judged (shapeFault (now (model .entry))) (countsOf (now (model .entry))) ⌝ }
-{
-    match sections::judge_section(model, 1, Role::Sizes, 0) {
-        Passed::Fault(fault) => Judged::Fault(fault),
-        Passed::To { end, count: _ } => {
-            let sizes = &model[5..end];
-            judge_rest(model, end, records::word_at(sizes, 0))
-        }
-    }
 }
 
 // The model by itself: 2, 3, then 4 to 7.

@@ -1,89 +1,118 @@
--- `model::judge_shape` meets its contract: the sizes, from which F comes, and then the other sections.
-use Prim.Native.Nat.{ℕ, _-_}
-use mathlib.Core.List.{List}
-use mathlib.Core.Path.{_≡_, _∙_, sym, ap}
-use mathlib.Core.Option.{none}
-use native.Mathlib.Omega.{arith}
+-- `model::judge_shape` meets its contract: at the head of the loop the model's first fault and counts are those from section i on.
+use mathlib.Core.Path.{_≡_}
 use denote.Ref.{now}
-use lib.ListN.{length, take, drop}
-use Rattle.records.specs.Words.{word}
-use Rattle.sections.specs.Sections.{endAt, sectionAt, payload, inSection, sizes, reader}
-use Rattle.sections.specs.declared.Role.the-variants.{Sizes}
-use Rattle.sections.proofs.Fits.{section-fine}
-use Rattle.sections.proofs.Parts.{Ended, fit-ended, ended-bytes}
-use Rattle.sections.proofs.Answers.{passed-to, passed-fault, or-first}
-use Rattle.files.specs.Files.{roles, tag, indexOf, placeOfRole, sectionOf, factCount, faultFrom, shapeFault}
-use Rattle.files.proofs.Answers.{judged-some}
-use Rattle.files.proofs.Order.{all-fine, sizes-fine}
+use lib.ListN.{length, getD}
+use Rattle.sections.specs.Sections.{endAt, payload, inSection, reader, entries}
+use Rattle.sections.specs.Answers.{passed}
+use Rattle.sections.specs.declared.Role.the-variants.{Goals}
+use Rattle.files.specs.Files.{roles}
+use Rattle.files.proofs.Answers.{judged-some, judged-none}
 use borrow.Author.Needs.{needs}
+use Prim.Native.Nat.{ℕ, _-_, _≤_, _<_}
+use mathlib.Core.List.{List}
+use native.Mathlib.Omega.{arith}
+use Rattle.files.proofs.Order.{Onward, onward-start, onward-next, onward-fault, onward-left, onward-end}
 use Rattle.files.proofs.model.judge_shape.Statement.{statement}
 use Rattle.files.proofs.model.judge_shape.Tie as tie
 
--- the sizes are fine
-module _ (c : tie.After-end) where
+abbrev Inv-loop : tie.InvT-loop
+Inv-loop model facts counts₀ at₀ i₀ counts at i = Onward model facts i at counts
+
+abbrev μ-loop : tie.MeasureT-loop
+μ-loop model facts counts₀ at₀ i₀ counts at i = 5 - i
+
+-- where a section is judged
+module _ (c : tie.After-judge-section Inv-loop μ-loop) where
+  abbrev loop : tie.At-loop Inv-loop μ-loop
+  loop = c .before .before .before
+
   abbrev file : List ℕ
-  file = now (c .before .before .before .before .args .model)
+  file = now (loop .before .before .before .args .model)
 
-  past : (inSection (reader Sizes 0) file 1 ≡ none) × (endAt file 1 ≡ c .end .given .0 .0)
-  past = let (fine, ends, count) = passed-to _ _ _ _ _ (c .before .before .judge-section .ensures) (c .end .given .1) in (fine, ends)
+  abbrev facts : ℕ
+  facts = loop .before .facts-told .result
 
-  ended : Ended file 1 (c .end .given .0 .0)
-  ended = rw (← past .1) (fit-ended file 1 (section-fine (reader Sizes 0) file 1 (past .0) .0))
+  on : Onward file facts (loop .loop .i) (loop .loop .at) (loop .loop .counts)
+  on = loop .loop .inv
 
-  bytes : take (c .end .given .0 .0 - 5) (drop 5 file) ≡ payload file 1
-  bytes = ended-bytes file 1 _ ended
+  more : loop .loop .i < length roles
+  unfolding roles
+  more = c .before .before .loop-test .taken
 
-  sizes-length : length (payload file 1) ≡ 2
-  unfolding reader
-  sizes-length = sizes-fine (payload file 1) (all-fine (sizes (payload file 1)) _ (section-fine (reader Sizes 0) file 1 (past .0) .1)) .0
+  section-is : c .judge-section .result ≡ passed (inSection (reader (getD roles (loop .loop .i) Goals) facts) file (loop .loop .at))
+      (endAt file (loop .loop .at)) (entries (getD roles (loop .loop .i) Goals) (payload file (loop .loop .at)))
+  section-is = rw (c .before .role-at .ensures) at (c .judge-section .ensures)
 
-judge-section-requires : tie.Need-judge-section-requires
+all-sections : (c : tie.After-loop Inv-loop μ-loop) → length roles ≤ c .before .loop .i
+unfolding roles
+all-sections c = c .loop-test .left
+
+facts-told-requires : tie.Need-facts-told-requires Inv-loop μ-loop
+facts-told-requires c κs = search needs
+
+loop-holds : tie.Need-loop-holds Inv-loop μ-loop
+loop-holds c = onward-start _ _ (c .facts-told .ensures)
+
+role-at-requires : tie.Need-role-at-requires Inv-loop μ-loop
+role-at-requires c κs = search needs
+
+judge-section-requires : tie.Need-judge-section-requires Inv-loop μ-loop
 judge-section-requires c κs = search needs
 
-enum-known-fault : tie.Need-enum-known-fault
+enum-known-fault : tie.Need-enum-known-fault Inv-loop μ-loop
 enum-known-fault c = search needs
 
-enum-known-end : tie.Need-enum-known-end
-enum-known-end c = search needs
-
-sub-sizes : tie.Need-sub-sizes
-sub-sizes c = omega (arith, ended (c .before))
-
-part-sizes-start : tie.Need-part-sizes-start
-part-sizes-start c = omega (arith, ended (c .before))
-
-part-sizes-end : tie.Need-part-sizes-end
-part-sizes-end c = omega (arith, ended (c .before))
-
-word-at-requires : tie.Need-word-at-requires
-word-at-requires c κs = rw (bytes (c .before .before)) (omega (arith, sizes-length (c .before .before)))
-
-judge-rest-requires : tie.Need-judge-rest-requires
-unfolding reader inSection factCount sectionOf placeOfRole indexOf roles tag sectionAt
-judge-rest-requires c κs =
-    let e = c .before .before .before in
-    (past e .0, sym (past e .1), c .word-at .ensures ∙ ap word (bytes e))
-
-returns : tie.Need-returns
-unfolding shapeFault faultFrom roles sectionAt reader inSection
+returns : tie.Need-returns Inv-loop μ-loop
 returns c =
     let asked = c .before .before .before in
-    judged-some _ _ _ (or-first _ _ _ (passed-fault _ _ _ _ (asked .judge-section .ensures) (c .before .fault .given .1)))
+    judged-some _ _ _ (onward-fault _ _ (on asked) (more asked) (section-is asked) (c .before .fault .given .1))
 
-returns-2 : tie.Need-returns-2
-returns-2 c = search needs
+enum-known-end : tie.Need-enum-known-end Inv-loop μ-loop
+enum-known-end c = search needs
+
+note-requires : tie.Need-note-requires Inv-loop μ-loop
+note-requires c κs = search needs
+
+add-i : tie.Need-add-i Inv-loop μ-loop
+add-i c = omega arith
+
+loop-less : tie.Need-loop-less Inv-loop μ-loop
+loop-less c = omega arith
+
+loop-again : tie.Need-loop-again Inv-loop μ-loop
+loop-again c =
+    let asked = c .before .before .before .before in
+    rw (c .note .ensures, asked .before .role-at .ensures)
+    (onward-next _ _ (on asked) (more asked) (section-is asked) (c .before .before .end .given .1))
+
+sub-size : tie.Need-sub-size Inv-loop μ-loop
+sub-size c = omega arith
+
+returns-2 : tie.Need-returns-2 Inv-loop μ-loop
+returns-2 c = judged-some _ _ _ (onward-left _ _ (c .before .before .loop .inv) (all-sections (c .before)) (c .if1 .taken))
+
+returns-3 : tie.Need-returns-3 Inv-loop μ-loop
+returns-3 c =
+    let (fine, counts) = onward-end _ _ (c .before .before .loop .inv) (all-sections (c .before)) (c .if1 .left) in
+    judged-none _ _ _ fine counts
 
 pub judge-shape-spec : {M : Type 1} → statement M
 judge-shape-spec =
     tie.close
     (tie.spec
+    Inv-loop
+    μ-loop
+    facts-told-requires
+    loop-holds
+    role-at-requires
     judge-section-requires
     enum-known-fault
-    enum-known-end
-    sub-sizes
-    part-sizes-start
-    part-sizes-end
-    word-at-requires
-    judge-rest-requires
     returns
-    returns-2)
+    enum-known-end
+    note-requires
+    add-i
+    loop-less
+    loop-again
+    sub-size
+    returns-2
+    returns-3)

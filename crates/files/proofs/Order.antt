@@ -1,5 +1,5 @@
--- Laws on judging a model's sections in order: the first of them that is at fault, what is counted on the way, and what the sizes and
--- bare numbers are that have no fault.
+-- Laws on judging a model's sections in order: the first of them that is at fault, what is counted on the way, and what
+-- the sizes and bare numbers are that have no fault.
 use Prim.Native.Nat.{ℕ, suc, _+_, _-_, _≤_, _<_}
 use mathlib.Core.Path.{_≡_, refl, _∙_, sym, ap}
 use mathlib.Core.Bool.{true, false, not}
@@ -24,13 +24,15 @@ use Rattle.sections.specs.declared.Role.the-variants.{Sizes, Goals}
 use Rattle.sections.proofs.Fits.{neither, not-given, section-fine}
 use Rattle.sections.proofs.Parts.{Ended, fit-ended, ended-bytes, ended-size}
 use Rattle.sections.proofs.Answers.{passed-to, passed-fault, or-first, or-next}
-use Rattle.files.specs.Files.{roles, tag, indexOf, placeOfRole, sectionOf, factCount, ruleIn, goalIn, modelOf, faultFrom, shapeFault}
+use Rattle.files.specs.Files.{roles, tag, indexOf, placeOfRole, sectionOf, factCount, ruleIn, goalIn, modelOf}
+use Rattle.files.specs.Files.{faultFrom, shapeFault}
 use Rattle.files.specs.Answers.{countsOf, noted, notedFrom}
 use Rattle.files.specs.declared.Counts.{Counts}
 
 -- ---- the sections in order
 
--- Judging with F facts has come to section i, at a place, with counts: the model's first fault and its counts are those from here on.
+-- Judging with F facts has come to section i, at a place, with counts: the model's first fault and its counts are those
+-- from here on.
 pub record Onward (file : List ℕ) (F i at : ℕ) (n : Counts) : Type 0 where
   pub fault : shapeFault file ≡ faultFrom (drop i roles) F file at
   pub counts : countsOf file ≡ notedFrom (drop i roles) file at n
@@ -43,23 +45,29 @@ module _ (file : List ℕ) (F : ℕ) where
   by-facts none rest told = ap rest (sym (told refl))
   by-facts (some f) rest told = refl
 
+  start-counts : countsOf file ≡ notedFrom roles file 1 (record { rules = 0; goals = 0 })
+  unfolding roles sectionAt countsOf notedFrom noted entries modelOf sectionOf placeOfRole indexOf tag
+  start-counts = rw (length-map, length-map)
+
   -- It starts with the sizes.
-  pub onward-start : (inSection (reader Sizes F) file 1 ≡ none → F ≡ factCount file) → Onward file F 0 1 (record { rules = 0; goals = 0 })
-  unfolding shapeFault faultFrom roles sectionAt countsOf notedFrom noted entries modelOf sectionOf placeOfRole indexOf tag reader inSection
+  pub onward-start : (inSection (reader Sizes F) file 1 ≡ none → F ≡ factCount file)
+      → Onward file F 0 1 (record { rules = 0; goals = 0 })
+  unfolding shapeFault faultFrom roles sectionAt reader inSection
   onward-start told = record {
     fault = by-facts (inSection (reader Sizes F) file 1) (λ k. faultFrom (drop 1 roles) k file (endAt file 1)) told;
-    counts = rw (length-map, length-map);
+    counts = start-counts;
   }
 
   module _ {i at : ℕ} {n : Counts} (on : Onward file F i at n) where
     module _ {r : Passed} (h : i < length roles)
         (is : r ≡ passed (inSection (reader (getD roles i Goals) F) file at) (endAt file at)
-            (entries (getD roles i Goals) (payload file at))) where
+        (entries (getD roles i Goals) (payload file at))) where
       here : drop i roles ≡ getD roles i Goals ∷ drop (suc i) roles
       here = drop-cons roles i Goals h
 
       -- The section is fine: it comes to the next one.
-      pub onward-next : {end count : ℕ} → r ≡ Passed.To end count → Onward file F (i + 1) end (noted n (getD roles i Goals) count)
+      pub onward-next : {end count : ℕ} → r ≡ Passed.To end count
+          → Onward file F (i + 1) end (noted n (getD roles i Goals) count)
       unfolding faultFrom notedFrom
       onward-next told =
           let (fine, ends, counts) = passed-to _ _ _ _ _ is told in
@@ -75,7 +83,8 @@ module _ (file : List ℕ) (F : ℕ) where
 
     module _ (h : length roles ≤ i) where
       -- After the last section bytes are left over.
-      pub onward-left : at < length file → shapeFault file ≡ some (record { number = 4; start = at; size = length file - at })
+      pub onward-left : at < length file
+          → shapeFault file ≡ some (record { number = 4; start = at; size = length file - at })
       unfolding faultFrom leftOver
       onward-left more = on .fault ∙ rw (drop-of-length-le roles h, lt-ltb _ _ more)
 

@@ -1,9 +1,11 @@
--- `model::judge_shape` meets its contract: at the head of the loop the model's first fault and counts are those from section i on.
+-- `model::judge_shape` meets its contract: at the head of the loop the model's first fault and counts are those from
+-- section i on.
 use mathlib.Core.Path.{_≡_}
 use denote.Ref.{now}
 use lib.ListN.{length, getD}
 use Rattle.sections.specs.Sections.{endAt, payload, inSection, reader, entries}
 use Rattle.sections.specs.Answers.{passed}
+use Rattle.sections.specs.declared.Role.{Role}
 use Rattle.sections.specs.declared.Role.the-variants.{Goals}
 use Rattle.files.specs.Files.{roles}
 use Rattle.files.proofs.Answers.{judged-some, judged-none}
@@ -39,8 +41,11 @@ module _ (c : tie.After-judge-section Inv-loop μ-loop) where
   unfolding roles
   more = c .before .before .loop-test .taken
 
-  section-is : c .judge-section .result ≡ passed (inSection (reader (getD roles (loop .loop .i) Goals) facts) file (loop .loop .at))
-      (endAt file (loop .loop .at)) (entries (getD roles (loop .loop .i) Goals) (payload file (loop .loop .at)))
+  abbrev role : Role
+  role = getD roles (loop .loop .i) Goals
+
+  section-is : c .judge-section .result ≡ passed (inSection (reader role facts) file (loop .loop .at))
+      (endAt file (loop .loop .at)) (entries role (payload file (loop .loop .at)))
   section-is = rw (c .before .role-at .ensures) at (c .judge-section .ensures)
 
 all-sections : (c : tie.After-loop Inv-loop μ-loop) → length roles ≤ c .before .loop .i
@@ -89,7 +94,8 @@ sub-size : tie.Need-sub-size Inv-loop μ-loop
 sub-size c = omega arith
 
 returns-2 : tie.Need-returns-2 Inv-loop μ-loop
-returns-2 c = judged-some _ _ _ (onward-left _ _ (c .before .before .loop .inv) (all-sections (c .before)) (c .if1 .taken))
+returns-2 c =
+    judged-some _ _ _ (onward-left _ _ (c .before .before .loop .inv) (all-sections (c .before)) (c .if1 .taken))
 
 returns-3 : tie.Need-returns-3 Inv-loop μ-loop
 returns-3 c =

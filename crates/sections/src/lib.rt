@@ -47,7 +47,7 @@ fn long_at(file: &[u8], at: usize) -> usize
 pub fn section_end(file: &[u8], at: usize) -> usize
     ensures { λ r. ⌜ r ≡ cond (fits (now (file .entry)) at) (endAt (now (file .entry)) at) 0 ⌝ }
 {
-    if file.len() < 4 || file.len() - 4 < at {
+    if file.len() < at || file.len() - at < 4 {
         return 0;
     }
     let start = at + 4;

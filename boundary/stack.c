@@ -8,7 +8,7 @@
 #include <ucontext.h>
 
 /* The most bytes that each may take: what was measured, and a tenth. */
-enum { CHECK_LIMIT = 721, CLOSE_LIMIT = 580, PART_LIMIT = 44 };
+enum { CHECK_LIMIT = 633, CLOSE_LIMIT = 492, PART_LIMIT = 44 };
 
 enum { STACK = 1 << 20, FACTS = 4096, STORED = 32, HEADS = 64, NEVER = FACTS - 1 };
 

@@ -13,6 +13,7 @@ use lib.ListN.{length}
 use Rattle.sets.specs.Sets.{Facts, first}
 use Rattle.sets.proofs.Laws.{is-true, passes, both, below-or-from, first-hit, first-before}
 use Rattle.meaning.specs.Model.{Clause}
+use Rattle.meaning.specs.Rounds.{rounds}
 use Rattle.facts.specs.Facts.{members, AnyFrom}
 use Rattle.facts.proofs.Laws.{beyond}
 use Rattle.records.specs.Records.{given, _orElse_}
@@ -22,10 +23,10 @@ use Rattle.files.specs.Files.{factCount, modelOf, shapeFault, modelFault, model
 use Rattle.sections.proofs.Fits.{neither}
 use Rattle.files.proofs.Laws.{facts-bound, clauses-bound, clause-below}
 use Rattle.files.proofs.Causes.{model-fault-range}
-use Rattle.closing.specs.Closing.{Bounded, ClosesUnder, noRoom, someFrom, closeRefusal, answer, Table}
-use Rattle.closing.specs.Closing.{Closes, ClosesKnown}
+use Rattle.closing.specs.Closing.{Bounded, ClosesUnder, noRoom, someFrom, closeRefusal, answer, Table, Closes}
+use Rattle.closing.specs.Closing.{ClosesKnown, ClosedExactly}
 use Rattle.closing.specs.declared.Closed.{Closed}
-use Rattle.closing.proofs.Laws.{filled-unique}
+use Rattle.closing.proofs.Laws.{filled-unique, filled-number, filled-smallest, answered-rounds, answered-bound}
 
 -- ---- room, as the code asks for it
 
@@ -150,3 +151,43 @@ closes-unique {model} {state} {before} {a} {b} x y = (
   table-unique (closeRefusal model state before) (modelOf model .clauses) (members state) before a b (x .table)
       (y .table),
 )
+
+-- ---- demand 3
+
+-- What refuses nothing has no fault in the model.
+unrefused : (m state table : List ℕ) → closeRefusal m state table ≡ none → modelFault m ≡ none
+unfolding closeRefusal given _orElse_
+unrefused m state table e = go (noRoom state table) (modelFault m) refl e
+  where
+    go : (short : Bool) (found : Option Fault) → modelFault m ≡ found
+        → (given short 1 orElse Option·map (λ f. f .number) found
+        orElse given (someFrom (factCount m) (members state)) 6) ≡ none → modelFault m ≡ none
+    go true found q h = absurd (Option·none-ne-some 1 (sym h))
+    go false (some f) q h = absurd (Option·none-ne-some (f .number) (sym h))
+    go false none q h = q
+
+-- Whatever model, state and table are lent: where closing answers rounds, the facts that the table numbers are HC of
+-- the state, each of the first 4,096 entries is its fact's round number, and the answer is the number of rounds, at
+-- most the different heads missing from the state.
+pub closing-exactly : {model state before after : List ℕ} {n : ℕ} → Closes model state before after (Closed.Rounds n)
+    → ClosedExactly (modelOf model .clauses) (members state) before after n
+unfolding answer Table
+closing-exactly {model} {state} {before} {after} {n} closes = go (closeRefusal model state before) refl (closes .answers) (closes .table)
+  where
+    cs : List Clause
+    cs = modelOf model .clauses
+
+    go : (r : Option ℕ) → closeRefusal model state before ≡ r → Closed.Rounds n ≡ answer r (rounds cs (members state))
+        → Table r cs (members state) before after → ClosedExactly cs (members state) before after n
+    go (some k) _ e _ = let z : _≡_ {A = ℕ} 0 1 = cc in absurd (omega arith)
+    go none fine e filled =
+        let number : n ≡ rounds cs (members state) = cc in
+        let clauses = bounded model (fine-shape model (unrefused model state before fine)) in
+        record {
+          smallest = filled-smallest cs state filled clauses;
+          entries = filled-number cs (members state) filled;
+          number = answered-rounds cs (members state) n number;
+          bound = answered-bound cs (members state) n number;
+          as-long = filled .as-long;
+          beyond = filled .beyond;
+        }

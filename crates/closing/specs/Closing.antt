@@ -9,7 +9,9 @@ use lib.Dec.{leb, ltb, eqb}
 use lib.ListN.{length, getD, drop}
 use Rattle.sets.specs.Sets.{Facts, first, _∈_}
 use Rattle.meaning.specs.Model.{Clause}
-use Rattle.meaning.specs.Rounds.{rounds, roundNumber}
+use Rattle.meaning.specs.Rounds.{rounds, roundNumber, missingHeads}
+use Rattle.meaning.specs.Published.{HC}
+use Rattle.meaning.specs.Promises.{IsRounds, IsRoundNumber}
 use Rattle.facts.specs.Facts.{members}
 use Rattle.records.specs.Records.{given, _orElse_}
 use Rattle.files.specs.Files.{factCount, modelOf, modelFault}
@@ -83,3 +85,14 @@ pub record ClosesKnown (model state before after : List ℕ) (r : Closed) : Type
 pub record Closes (model state before after : List ℕ) (r : Closed) : Type 0 where
   pub answers : r ≡ answer (closeRefusal model state before) (rounds (modelOf model .clauses) (members state))
   pub table : Table (closeRefusal model state before) (modelOf model .clauses) (members state) before after
+
+-- demand 3 (docs/PROMISES.md), for a state's set under a model's clauses: the facts with a number are the smallest set
+-- that holds the state and obeys the clauses, each entry is the fact's round number, the answer is the number of rounds
+-- and at most the different heads missing from the state; nothing else of the table changed
+pub record ClosedExactly (cs : List Clause) (S : Facts) (before after : List ℕ) (n : ℕ) : Type 0 where
+  pub smallest : HC cs S (numbered after)
+  pub entries : (f : ℕ) → f < 4096 → IsRoundNumber cs S f (getD after f 0)
+  pub number : IsRounds cs S n
+  pub bound : n ≤ missingHeads cs S
+  pub as-long : length after ≡ length before
+  pub beyond : drop 4096 after ≡ drop 4096 before

@@ -8,5 +8,6 @@ pub mod Refusals
 pub mod Causes
 pub mod Parts
 pub mod Naming
+pub mod Unique
 pub mod Theorems
 pub mod Cases

@@ -11,8 +11,9 @@ use lib.Dec.{T}
 use lib.ListN.{getD}
 use Rattle.sets.specs.Sets.{Facts, _∈_}
 use Rattle.sets.proofs.Laws.{fails, below-or-from}
-use Rattle.meaning.specs.Model.{Rule, ruleOf}
+use Rattle.meaning.specs.Model.{Rule, Model, ruleOf}
 use Rattle.meaning.specs.Rounds.{rounds, closure, missingHeads}
+use Rattle.meaning.specs.Run.{Outcome}
 use Rattle.meaning.specs.Published.{TrueAttack}
 use Rattle.meaning.specs.Promises.{IsOutcome, EndsSo, roundsOn}
 use Rattle.meaning.specs.Promises.EndsSo.{attack as so-attack, blocked as so-blocked, notMet as so-notMet}
@@ -44,14 +45,24 @@ use Rattle.checking.proofs.Parts.{fault-at, run-at, fault-in, run-in}
 -- ---- one verdict
 
 module _ (m t : List ℕ) (before : Lent) {a b : Lent} (bytes-a : Bytes (a .state)) (bytes-b : Bytes (b .state)) where
-  -- Whatever the refusal, it leaves one state and one table.
-  pub buffers-unique : (r : Option Verdict) → Buffers m t r before a → Buffers m t r before b → a ≡ b
-  unfolding Buffers
-  buffers-unique none x y =
+  -- An outcome leaves one state and one table.
+  pub left-unique : {M : Model} {o : Outcome} → Left M o before a → Left M o before b → a ≡ b
+  left-unique x y =
       let states = determined bytes-a bytes-b (x .kept) (y .kept) (λ g. x .facts g ∙ sym (y .facts g)) in
       let tables = filled-unique (x .rounds) (y .rounds) in
       λ i. record { state = states i; table = tables i }
+
+  -- Whatever the refusal, it leaves one state and one table.
+  pub buffers-unique : (r : Option Verdict) → Buffers m t r before a → Buffers m t r before b → a ≡ b
+  unfolding Buffers
+  buffers-unique none x y = left-unique x y
   buffers-unique (some v) x y = x ∙ sym y
+
+  -- Two results of running one judged pair are equal in the same way.
+  pub run-unique : {v w : Verdict}
+      → (v ≡ ran m t (outcome m t)) × Left (modelOf m) (outcome m t) before a
+      → (w ≡ ran m t (outcome m t)) × Left (modelOf m) (outcome m t) before b → (v ≡ w) × (a ≡ b)
+  run-unique (v-is, x) (w-is, y) = (v-is ∙ sym w-is, left-unique x y)
 
   -- Two results of checking one pair with the same buffers are equal in every field of the verdict, every byte and
   -- every entry.

@@ -20,7 +20,7 @@ use Rattle.meaning.proofs.Theorems.{closure-is-HC, closure-inside, roundNumber-
 use Rattle.meaning.proofs.Theorems.{rounds-is, rounds-bound}
 use Rattle.facts.specs.Facts.{members}
 use Rattle.facts.proofs.Laws.{beyond}
-use Rattle.closing.specs.Closing.{Written, Filled, Bounded, numbered}
+use Rattle.closing.specs.Closing.{Written, Filled, Bounded, ClosesUnder, numbered}
 
 -- Two tables that closing can leave of one table are the same.
 pub filled-unique : {number : ℕ → ℕ} {before a b : List ℕ} → Written number before a → Written number before b → a ≡ b
@@ -35,6 +35,11 @@ filled-unique {a = a} {b = b} p q =
         subst (λ (k : ℕ). getD a k 0 ≡ getD b k 0) (add-sub-of-le l)
         (sym (getD-drop 4096 a (f - 4096) 0) ∙ ap (λ (t : List ℕ). getD t (f - 4096) 0) (p .beyond ∙ sym (q .beyond))
         ∙ getD-drop 4096 b (f - 4096) 0)
+
+-- Two results of closing under a judged model's clauses are equal, the number and every entry.
+pub closes-under-unique : {cs : List Clause} {state before a b : List ℕ} {n k : ℕ}
+    → ClosesUnder cs state before a n → ClosesUnder cs state before b k → (n ≡ k) × (a ≡ b)
+closes-under-unique x y = (x .number ∙ sym (y .number), filled-unique (x .filled) (y .filled))
 
 module _ (cs : List Clause) (S : Facts) {before after : List ℕ} (filled : Filled cs S before after) where
   -- Each of the first 4,096 entries is the fact's round number.

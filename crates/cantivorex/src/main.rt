@@ -1,7 +1,11 @@
 // The program: reads case.model and case.trace in the working folder and prints the verdict's line. A missing file
 // counts as empty. A file that cannot be opened or read to its end gives no line: standard error says which, so that it
 // can't pass for a shorter file.
+ghost use mathlib.Core.Path.{_≡_};
+ghost use Prim.Native.Nat.{_≤_};
+ghost use lib.ListN.{length};
 ghost use Rattle.io.specs.Counts.{Counts};
+ghost use Rattle.cantivorex.specs.Names.{nameOf, kindName, Spells};
 use checking::Verdict;
 use libc::ENOENT;
 use libc::STDOUT_FILENO;
@@ -69,21 +73,95 @@ fn print_value(word: &[u8], n: usize) -> bool {
     io::write_all(STDOUT_FILENO, word) && io::print_decimal(STDOUT_FILENO, n as u64)
 }
 
+// A word of at most eight bytes.
+struct Word {
+    bytes: [u8; 8],
+    size: usize,
+}
+
 // The verdict's name in document 01's table.
-fn print_name(number: u8) -> bool {
+fn name_of(number: u8) -> Word
+    ensures { λ r. ⌜ Spells (r .bytes) (r .size) (nameOf number) ⌝ }
+{
     match number {
-        0 => io::write_all(STDOUT_FILENO, b"ATTACK"),
-        1 => io::write_all(STDOUT_FILENO, b"ROOM"),
-        2 => io::write_all(STDOUT_FILENO, b"LONG"),
-        3 => io::write_all(STDOUT_FILENO, b"VERSION"),
-        4 => io::write_all(STDOUT_FILENO, b"SHAPE"),
-        5 => io::write_all(STDOUT_FILENO, b"COUNT"),
-        6 => io::write_all(STDOUT_FILENO, b"FACT"),
-        7 => io::write_all(STDOUT_FILENO, b"ORDER"),
-        9 => io::write_all(STDOUT_FILENO, b"NAME"),
-        10 => io::write_all(STDOUT_FILENO, b"BLOCKED"),
-        _ => io::write_all(STDOUT_FILENO, b"NOATTACK"),
+        0 => Word {
+            bytes: *b"ATTACK  ",
+            size: 6,
+        },
+        1 => Word {
+            bytes: *b"ROOM    ",
+            size: 4,
+        },
+        2 => Word {
+            bytes: *b"LONG    ",
+            size: 4,
+        },
+        3 => Word {
+            bytes: *b"VERSION ",
+            size: 7,
+        },
+        4 => Word {
+            bytes: *b"SHAPE   ",
+            size: 5,
+        },
+        5 => Word {
+            bytes: *b"COUNT   ",
+            size: 5,
+        },
+        6 => Word {
+            bytes: *b"FACT    ",
+            size: 4,
+        },
+        7 => Word {
+            bytes: *b"ORDER   ",
+            size: 5,
+        },
+        9 => Word {
+            bytes: *b"NAME    ",
+            size: 4,
+        },
+        10 => Word {
+            bytes: *b"BLOCKED ",
+            size: 7,
+        },
+        11 => Word {
+            bytes: *b"NOATTACK",
+            size: 8,
+        },
+        _ => Word {
+            bytes: *b"        ",
+            size: 0,
+        },
     }
+}
+
+// The kind of the unmet condition, `none` where there is no value.
+fn kind_name(kind: u8) -> Word
+    ensures { λ r. ⌜ Spells (r .bytes) (r .size) (kindName kind) ⌝ }
+{
+    match kind {
+        1 => Word {
+            bytes: *b"positive",
+            size: 8,
+        },
+        2 => Word {
+            bytes: *b"negative",
+            size: 8,
+        },
+        _ => Word {
+            bytes: *b"none    ",
+            size: 4,
+        },
+    }
+}
+
+// The word's bytes, and no others of the eight.
+fn print_word(word: Word) -> bool
+    requires { ⌜ (8 ≡ length (word .bytes)) × (word .size ≤ 8) ⌝ }
+{
+    let bytes = word.bytes;
+    let size = word.size;
+    io::write_all(STDOUT_FILENO, &bytes[..size])
 }
 
 // A word and the number after it, or `none` where there is no value.
@@ -94,22 +172,14 @@ fn print_some(word: &[u8], n: usize) -> bool {
     print_value(word, n)
 }
 
-// The kind of the unmet condition.
-fn print_kind(kind: u8) -> bool {
-    match kind {
-        1 => io::write_all(STDOUT_FILENO, b" kind positive"),
-        2 => io::write_all(STDOUT_FILENO, b" kind negative"),
-        _ => io::write_all(STDOUT_FILENO, b" kind none"),
-    }
-}
-
 fn print_line(v: Verdict) {
-    let whole = print_name(v.number)
+    let whole = print_word(name_of(v.number))
         && print_value(b" step ", v.step)
         && print_some(b" fact ", v.fact)
         && print_value(b" rounds ", v.rounds)
         && print_value(b" held ", v.held)
-        && print_kind(v.kind)
+        && io::write_all(STDOUT_FILENO, b" kind ")
+        && print_word(kind_name(v.kind))
         && print_some(b" round ", v.round)
         && io::write_all(STDOUT_FILENO, b"\n");
     if !whole {

@@ -59,6 +59,13 @@ test_small_models() {
         00000000  00000008 0006 0001 0003 0000' 'ATTACK step 0 fact none rounds 3 held 1 kind none round none'
 }
 
+# The names that no other test prints; ROOM can't be reached here.
+test_names() {
+    small 'COUNT, F of 4,097' '01 00000002 1001' "$(refused COUNT)"
+    small 'FACT, 1 where F is 1' '01 00000002 0001  00000002 0001' "$(refused FACT)"
+    small 'ORDER, 1 before 0' '01 00000002 0002  00000004 0001 0000' "$(refused ORDER)"
+}
+
 test_missing_files() {
     local line
     line=$(refused VERSION)$'\n'
@@ -175,6 +182,7 @@ test_sizes() {
 
 test_samples
 test_small_models
+test_names
 test_missing_files
 test_unread_files
 test_odd_calls

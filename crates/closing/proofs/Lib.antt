@@ -5,3 +5,4 @@ pub mod Bodies
 pub mod Sweeps
 pub mod Rounds
 pub mod Alone
+pub mod Refused

@@ -2,10 +2,11 @@
 -- part", "Buffers").
 use Prim.Native.Nat.{ℕ, _<_, _≤_}
 use mathlib.Core.Path.{_≡_}
-use mathlib.Core.Bool.{Bool, not, _&&_, _||_}
+use mathlib.Core.Logic.{_⊎_}
+use mathlib.Core.Bool.{Bool, false, not, _&&_, _||_}
 use mathlib.Core.List.{List}
 use mathlib.Core.Option.{Option, none, some, Option·map}
-use lib.Dec.{leb, ltb, eqb}
+use lib.Dec.{T, leb, ltb, eqb}
 use lib.ListN.{length, getD, drop}
 use Rattle.sets.specs.Sets.{Facts, first, _∈_}
 use Rattle.meaning.specs.Model.{Clause}
@@ -15,6 +16,7 @@ use Rattle.meaning.specs.Promises.{IsRounds, IsRoundNumber}
 use Rattle.facts.specs.Facts.{members}
 use Rattle.records.specs.Records.{given, _orElse_}
 use Rattle.files.specs.Files.{factCount, modelOf, modelFault}
+use Rattle.files.specs.Causes.{ModelCause, RightModel, Starts}
 use Rattle.closing.specs.declared.Closed.{Closed}
 
 -- ---- the round table
@@ -86,6 +88,8 @@ pub record Closes (model state before after : List ℕ) (r : Closed) : Type 0 wh
   pub answers : r ≡ answer (closeRefusal model state before) (rounds (modelOf model .clauses) (members state))
   pub table : Table (closeRefusal model state before) (modelOf model .clauses) (members state) before after
 
+-- ---- what follows, in words that name none of the definitions above but `numbered`
+
 -- demand 3 (docs/PROMISES.md), for a state's set under a model's clauses: the facts with a number are the smallest set
 -- that holds the state and obeys the clauses, each entry is the fact's round number, the answer is the number of rounds
 -- and at most the different heads missing from the state; nothing else of the table changed
@@ -96,3 +100,31 @@ pub record ClosedExactly (cs : List Clause) (S : Facts) (before after : List ℕ
   pub bound : n ≤ missingHeads cs S
   pub as-long : length after ≡ length before
   pub beyond : drop 4096 after ≡ drop 4096 before
+
+-- the buffers have room: a state of 512 bytes or more and a round table of 4,096 entries or more
+pub record Room (state table : List ℕ) : Type 0 where
+  pub bytes : 512 ≤ length state
+  pub entries : 4096 ≤ length table
+
+-- the model by itself is well-formed
+pub record RightAlone (m : List ℕ) : Type 0 where
+  pub size : length m ≤ 65536
+  pub first : Starts m
+  pub model : RightModel m
+
+-- the cause of each refusal, with nothing there that comes before it: "it gives 1 to 8 below for what it is lent, then
+-- 6 for a starting state with a bit set from F on in its first 512 bytes"
+pub data RefusedFor (m state table : List ℕ) : ℕ → Type 0 where
+  room : (length state < 512) ⊎ (length table < 4096) → RefusedFor m state table 1
+  long : Room state table → 65536 < length m → RefusedFor m state table 2
+  version : Room state table → length m ≤ 65536 → (Starts m → ⊥) → RefusedFor m state table 3
+  wrong : {k : ℕ} {bytes : List ℕ} → Room state table → length m ≤ 65536 → Starts m → ModelCause m k bytes
+      → RefusedFor m state table k
+  fact : Room state table → RightAlone m → (f : ℕ) → factCount m ≤ f → T (members state f)
+      → RefusedFor m state table 6
+
+-- none of them is there
+pub record Answerable (m state table : List ℕ) : Type 0 where
+  pub room : Room state table
+  pub model : RightAlone m
+  pub facts : (f : ℕ) → factCount m ≤ f → members state f ≡ false

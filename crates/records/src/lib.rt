@@ -124,7 +124,7 @@ fn mark_list(list: &[u8], row: Row, marks: Marks) -> Marks
         at += 2;
     }
     Marks {
-        count: marks.count || row.longest < list.len() / 2,
+        count: marks.count | (row.longest < list.len() / 2),
         fact,
         order,
     }
@@ -134,12 +134,15 @@ fn mark_list(list: &[u8], row: Row, marks: Marks) -> Marks
 fn pick(marks: Marks) -> u8
     ensures { λ r. ⌜ r ≡ code (picked marks) ⌝ }
 {
-    if marks.count {
-        5
-    } else if marks.fact {
-        6
-    } else if marks.order {
-        7
+    // Nearly every record is fine, which is then seen by one test.
+    if marks.count | marks.fact | marks.order {
+        if marks.count {
+            5
+        } else if marks.fact {
+            6
+        } else {
+            7
+        }
     } else {
         0
     }

@@ -4,7 +4,7 @@ use Prim.Native.Nat.{ℕ, _+_, _-_, _≤_, zero-le}
 use mathlib.Core.Path.{_≡_, refl, _∙_, sym, ap}
 use mathlib.Core.Logic.{⊎-elim, inl, inr}
 use mathlib.Core.List.{List, [], _∷_}
-use mathlib.Core.Bool.{Bool, _||_, or-false}
+use mathlib.Core.Bool.{_||_, or-false}
 use native.Mathlib.Omega.{arith}
 use lib.Dec.{leb}
 use lib.ListN.{length, drop, length-drop}
@@ -12,8 +12,6 @@ use borrow.Author.Tests.{le-leb, lt-leb, le-ltb, lt-ltb}
 use denote.Ref.{now}
 use Rattle.sets.specs.Sets.{any}
 use Rattle.records.specs.Words.{words}
-use Rattle.records.specs.Records.{tooLong}
-use Rattle.records.specs.Contracts.{Marked}
 use Rattle.records.proofs.Words.{word-small, words-at, words-none, length-words}
 use Rattle.records.proofs.Lists.{marked, brokenFrom, not-ascending}
 use Rattle.records.proofs.mark_list.Statement.{statement}
@@ -39,8 +37,9 @@ word-at-requires c κs = omega arith
 
 add-floor : tie.Need-add-floor Inv-loop μ-loop
 add-floor c =
-    let known = c .before .before .before .before .before in
-    let at = c .before .before .before .before .loop .at in
+    let here = c .before .before .before .before .before in
+    let known = here .before in
+    let at = here .loop .at in
     omega (arith, word-small (now (known .before .args .list)) at (known .shared-slice-known .given))
 
 add-at : tie.Need-add-at Inv-loop μ-loop
@@ -52,9 +51,10 @@ loop-less c = omega arith
 loop-again : tie.Need-loop-again Inv-loop μ-loop
 unfolding any brokenFrom
 loop-again c =
-    let call = c .before .before .word-at in
-    let loop = c .before .before .before .before .loop in
-    let start = c .before .before .before .before .before .before in
+    let called = c .before .before .before in
+    let call = called .word-at in
+    let loop = called .before .before .loop in
+    let start = called .before .before .before .before in
     let list = now (start .args .list) in
     let f = call .result in
     let later = words (drop (loop .at + 2) list) in
@@ -74,27 +74,18 @@ loop-again c =
     )
 
 -- after the loop no number is left, so the two marks are those of the whole list
-whole-list : (c : tie.After-loop Inv-loop μ-loop) (count : Bool)
-    → let args = c .before .before .before .args in
-    count ≡ (args .marks .count || tooLong (args .row) (words (now (args .list))))
-    → Marked (now (args .list)) (args .row) (args .marks)
-    (record { count = count; fact = c .before .loop .fact; order = c .before .loop .order })
+returns : tie.Need-returns Inv-loop μ-loop
 unfolding any brokenFrom
-whole-list c count e =
-    let loop = c .before .loop in
-    let list = now (c .before .before .before .args .list) in
+returns c =
+    let here = c .before .before .before in
+    let loop = here .loop in
+    let list = now (here .before .before .args .list) in
     let none : words (drop (loop .at) list) ≡ [] = words-none _ (rw length-drop (omega arith)) in
     record {
-      count = e;
+      count = rw length-words refl;
       fact = sym (loop .inv .1 ∙ rw none (or-false (loop .fact)));
       order = rw not-ascending (sym (loop .inv .2 ∙ rw none (or-false (loop .order))));
     }
-
-returns : tie.Need-returns Inv-loop μ-loop
-returns c = whole-list (c .before) _ (rw (c .if3 .taken))
-
-returns-2 : tie.Need-returns-2 Inv-loop μ-loop
-returns-2 c = whole-list (c .before) _ (rw (c .if3 .left, length-words))
 
 pub mark-list-spec : {M : Type 1} → statement M
 mark-list-spec =
@@ -109,5 +100,4 @@ mark-list-spec =
     add-at
     loop-less
     loop-again
-    returns
-    returns-2)
+    returns)

@@ -34,7 +34,7 @@ use Rattle.closing.proofs.Laws.{filled-unique}
 use Rattle.checking.specs.Verdict.{Lent, numberOf, factOf, kindOf, roundOf, refused, blamed, ran, outcome}
 use Rattle.checking.specs.Verdict.{refusal, verdictOf, Left, Buffers}
 use Rattle.checking.specs.Verdict.{Checked}
-use Rattle.checking.specs.Promises.{verdict, WellFormed, endNumber, Given, AtFault, Kinds, InFile}
+use Rattle.checking.specs.Promises.{verdict, WellFormed, endNumber, Given, AtFault, Values, Kinds, InFile}
 use Rattle.checking.specs.Promises.InFile.{inModel}
 use Rattle.checking.specs.declared.Verdict.{Verdict}
 use Rattle.checking.proofs.Refusals.{refuses-none, by-cause}
@@ -199,6 +199,51 @@ module _ (m t : List ℕ) (l : Lent) where
   part-in-file =
       by-cause m t l (λ v. InFile m t (v .part)) (λ _. inModel refl (omega arith))
       (λ _ b e. fault-in m t b (pair-cause m t b e)) (λ w. run-in m t (w .fine) (first-not-met w .0 .ends))
+
+  -- ---- step, fact, rounds, held
+
+  -- They are what document 01 says for the number.
+  pub values : Values t (verdict m t l)
+  unfolding refused blamed ran
+  values =
+      by-cause m t l (Values t) (λ _. none-of _ (omega arith) (omega arith) refl refl refl refl)
+      (λ _ b e. let (low, high, _) = fault-range m t b e in none-of _ (omega arith) high refl refl refl refl)
+      (λ w. of-run (first-not-met w .0 .ends))
+    where
+      none-of : (v : Verdict) → 1 ≤ v .number → v .number ≤ 9 → v .step ≡ 0 → v .fact ≡ 65535 → v .rounds ≡ 0
+          → v .held ≡ 0 → Values t v
+      none-of v low high s f r h = record {
+        refused = λ _ _. (s, r, h);
+        ended = λ e. absurd (⊎-elim (λ q. omega arith) (λ q. omega arith) e);
+        blocked = λ e. absurd (omega arith);
+        no-fact = λ _. f;
+      }
+
+      of-run : EndsSo (modelOf m) (traceOf t .goal) (traceOf t .steps) (outcome m t) → Values t (ran m t (outcome m t))
+      of-run (so-attack e s _) =
+          let number : numberOf (outcome m t .ending) ≡ 0 = ap numberOf e in
+          record {
+            refused = λ low _. absurd (omega arith);
+            ended = λ _. s;
+            blocked = λ q. absurd (omega arith);
+            no-fact = λ _. ap factOf e;
+          }
+      of-run (so-blocked c e s X hc u) =
+          let number : numberOf (outcome m t .ending) ≡ 10 = ap numberOf e in
+          record {
+            refused = λ _ high. absurd (omega arith);
+            ended = λ q. absurd (⊎-elim (λ q. omega arith) (λ q. omega arith) q);
+            blocked = λ _. s;
+            no-fact = λ low. absurd (omega arith);
+          }
+      of-run (so-notMet c e s X hc u) =
+          let number : numberOf (outcome m t .ending) ≡ 11 = ap numberOf e in
+          record {
+            refused = λ _ high. absurd (omega arith);
+            ended = λ _. s;
+            blocked = λ q. absurd (omega arith);
+            no-fact = λ low. absurd (omega arith);
+          }
 
   -- ---- the unmet condition
 

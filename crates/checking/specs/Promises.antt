@@ -83,6 +83,16 @@ pub record AtFault (m t : List ℕ) (v : Verdict) : Type 0 where
   pub goal : v .number ≡ 11 → (v .part .mark ≡ 0)
       × (partOf m t (v .part) ≡ getD (records (sectionOf m Goals)) (traceOf t .goal) [])
 
+-- ---- step, fact, rounds, held
+
+-- "step: for 10 the number of the blocked step from 0; for 0 and 11 the count of steps; otherwise 0", "fact: ..
+-- otherwise 65,535", "rounds .. 0 for 1 to 9", "held .. 0 for 1 to 9"
+pub record Values (t : List ℕ) (v : Verdict) : Type 0 where
+  pub refused : 1 ≤ v .number → v .number ≤ 9 → (v .step ≡ 0) × (v .rounds ≡ 0) × (v .held ≡ 0)
+  pub ended : (v .number ≡ 0) ⊎ (v .number ≡ 11) → v .step ≡ length (traceOf t .steps)
+  pub blocked : v .number ≡ 10 → v .step < length (traceOf t .steps)
+  pub no-fact : v .number < 10 → v .fact ≡ 65535
+
 -- ---- the unmet condition (document 02, wish 7)
 
 -- "whether the unmet one was positive or negative and, if negative, the round in which its fact arose": positive

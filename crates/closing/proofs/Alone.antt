@@ -172,7 +172,8 @@ unrefused m state table e = go (noRoom state table) (modelFault m) refl e
 pub closing-exactly : {model state before after : List ℕ} {n : ℕ} → Closes model state before after (Closed.Rounds n)
     → ClosedExactly (modelOf model .clauses) (members state) before after n
 unfolding answer Table
-closing-exactly {model} {state} {before} {after} {n} closes = go (closeRefusal model state before) refl (closes .answers) (closes .table)
+closing-exactly {model} {state} {before} {after} {n} closes =
+    go (closeRefusal model state before) refl (closes .answers) (closes .table)
   where
     cs : List Clause
     cs = modelOf model .clauses

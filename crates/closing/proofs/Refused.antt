@@ -1,7 +1,7 @@
 -- What closing refuses, and why: each refusal has its cause, and where it answers rounds no cause is there.
 use Prim.Native.Nat.{ℕ, _≤_, _<_}
-use mathlib.Core.Path.{_≡_, refl, sym, _∙_}
-use mathlib.Core.Logic.{_⊎_, inl, inr, ⊎-elim}
+use mathlib.Core.Path.{_≡_, refl, sym, ap, subst}
+use mathlib.Core.Logic.{_⊎_, _↔_, inl, inr, ⊎-elim}
 use mathlib.Core.Bool.{Bool, true, false, true≢false, _&&_}
 use mathlib.Core.List.{List}
 use mathlib.Core.Option.{Option, none, some, Option·map, Option·none-ne-some}
@@ -11,7 +11,7 @@ use borrow.Author.Tests.{ltb-true, ltb-false, le-leb, leb-true}
 use lib.Dec.{T, leb, ltb}
 use lib.ListN.{length}
 use Rattle.sets.specs.Sets.{Facts, first}
-use Rattle.sets.proofs.Laws.{is-true, passes, both, by-test, below-or-from, first-hit, first-before}
+use Rattle.sets.proofs.Laws.{is-true, passes, fails, both, by-test, below-or-from, first-hit, first-before}
 use Rattle.facts.specs.Facts.{members}
 use Rattle.facts.proofs.Laws.{beyond}
 use Rattle.records.specs.Records.{given, _orElse_}
@@ -23,7 +23,7 @@ use Rattle.files.proofs.Found.{either-found}
 use Rattle.files.proofs.Traces.{not-long}
 use Rattle.files.proofs.ModelCauses.{model-cause}
 use Rattle.files.proofs.Causes.{starts, starts-byte, version-cause, long-cause}
-use Rattle.files.proofs.Exact.{model-exactly}
+use Rattle.files.proofs.Exact.{model-right, model-number, model-exactly}
 use Rattle.meaning.specs.Rounds.{rounds}
 use Rattle.closing.specs.Closing.{noRoom, someFrom, closeRefusal, answer, Table, Closes}
 use Rattle.closing.specs.Closing.{Room, RightAlone, RefusedFor, Answerable}
@@ -119,6 +119,49 @@ module _ (m state table : List ℕ) where
       go false s none e false b h =
           record { room = room-is state table s; model = alone e; facts = none-is (factCount m) state b }
 
+-- ---- one cause
+
+short : {state table : List ℕ} → (length state < 512) ⊎ (length table < 4096) → Room state table → ⊥
+short (inl h) room = omega (arith, room .bytes)
+short (inr h) room = omega (arith, room .entries)
+
+module _ {m state table : List ℕ} where
+  -- Causes for what is lent have one number.
+  cause-one : {j k : ℕ} → RefusedFor m state table j → RefusedFor m state table k → j ≡ k
+  cause-one (RefusedFor.room h1) (RefusedFor.room h2) = refl
+  cause-one (RefusedFor.room h1) (RefusedFor.long r2 l2) = absurd (short h1 r2)
+  cause-one (RefusedFor.room h1) (RefusedFor.version r2 s2 v2) = absurd (short h1 r2)
+  cause-one (RefusedFor.room h1) (RefusedFor.wrong r2 s2 v2 c2) = absurd (short h1 r2)
+  cause-one (RefusedFor.room h1) (RefusedFor.fact r2 a2 f2 l2 t2) = absurd (short h1 r2)
+  cause-one (RefusedFor.long r1 l1) (RefusedFor.room h2) = absurd (short h2 r1)
+  cause-one (RefusedFor.long r1 l1) (RefusedFor.long r2 l2) = refl
+  cause-one (RefusedFor.long r1 l1) (RefusedFor.version r2 s2 v2) = absurd (omega arith)
+  cause-one (RefusedFor.long r1 l1) (RefusedFor.wrong r2 s2 v2 c2) = absurd (omega arith)
+  cause-one (RefusedFor.long r1 l1) (RefusedFor.fact r2 a2 f2 l2 t2) = absurd (omega (arith, a2 .size))
+  cause-one (RefusedFor.version r1 s1 v1) (RefusedFor.room h2) = absurd (short h2 r1)
+  cause-one (RefusedFor.version r1 s1 v1) (RefusedFor.long r2 l2) = absurd (omega arith)
+  cause-one (RefusedFor.version r1 s1 v1) (RefusedFor.version r2 s2 v2) = refl
+  cause-one (RefusedFor.version r1 s1 v1) (RefusedFor.wrong r2 s2 v2 c2) = absurd (v1 v2)
+  cause-one (RefusedFor.version r1 s1 v1) (RefusedFor.fact r2 a2 f2 l2 t2) = absurd (v1 (a2 .first))
+  cause-one (RefusedFor.wrong r1 s1 v1 c1) (RefusedFor.room h2) = absurd (short h2 r1)
+  cause-one (RefusedFor.wrong r1 s1 v1 c1) (RefusedFor.long r2 l2) = absurd (omega arith)
+  cause-one (RefusedFor.wrong r1 s1 v1 c1) (RefusedFor.version r2 s2 v2) = absurd (v2 v1)
+  cause-one (RefusedFor.wrong r1 s1 v1 c1) (RefusedFor.wrong r2 s2 v2 c2) = model-number m c1 c2
+  cause-one (RefusedFor.wrong r1 s1 v1 c1) (RefusedFor.fact r2 a2 f2 l2 t2) = absurd (model-right (a2 .model) c1)
+  cause-one (RefusedFor.fact r1 a1 f1 l1 t1) (RefusedFor.room h2) = absurd (short h2 r1)
+  cause-one (RefusedFor.fact r1 a1 f1 l1 t1) (RefusedFor.long r2 l2) = absurd (omega (arith, a1 .size))
+  cause-one (RefusedFor.fact r1 a1 f1 l1 t1) (RefusedFor.version r2 s2 v2) = absurd (v2 (a1 .first))
+  cause-one (RefusedFor.fact r1 a1 f1 l1 t1) (RefusedFor.wrong r2 s2 v2 c2) = absurd (model-right (a1 .model) c2)
+  cause-one (RefusedFor.fact r1 a1 f1 l1 t1) (RefusedFor.fact r2 a2 f2 l2 t2) = refl
+
+  -- Where one is there, closing can't answer.
+  cause-answerable : {k : ℕ} → Answerable m state table → RefusedFor m state table k → ⊥
+  cause-answerable a (RefusedFor.room h) = short h (a .room)
+  cause-answerable a (RefusedFor.long r l) = omega (arith, a .model .size)
+  cause-answerable a (RefusedFor.version r s v) = v (a .model .first)
+  cause-answerable a (RefusedFor.wrong r s v c) = model-right (a .model .model) c
+  cause-answerable a (RefusedFor.fact r w f l t) = fails (a .facts f l) t
+
 -- ---- the answers
 
 module _ {m state before after : List ℕ} where
@@ -143,3 +186,13 @@ module _ {m state before after : List ℕ} where
           → Closed.Rounds n ≡ answer r (rounds (modelOf m .clauses) (members state)) → Answerable m state before
       go none e a = refusal-none m state before e
       go (some j) e a = let z : _≡_ {A = ℕ} 0 1 = cc in absurd (omega arith)
+
+-- Closing refuses with a number exactly if that number's cause is there.
+pub closing-numbers : {m state before after : List ℕ} {r : Closed} → Closes m state before after r
+    → (k : ℕ) → (r ≡ Closed.Refused k) ↔ RefusedFor m state before k
+closing-numbers {m} {state} {before} {after} {r} c k =
+    (λ e. closing-refused (subst (Closes m state before after) e c) .0, λ cause. go r c cause)
+  where
+    go : (r : Closed) → Closes m state before after r → RefusedFor m state before k → r ≡ Closed.Refused k
+    go (Closed.Rounds n) c cause = absurd (cause-answerable (closing-answered c) cause)
+    go (Closed.Refused j) c cause = ap Closed.Refused (cause-one (closing-refused c .0) cause)

@@ -24,7 +24,7 @@ use Rattle.files.proofs.Causes.{starts, starts-byte, long-cause, versio
 -- ---- right or not
 
 -- A right model has no cause,
-model-right : {m : List ℕ} {k : ℕ} {bytes : List ℕ} → RightModel m → ModelCause m k bytes → ⊥
+pub model-right : {m : List ℕ} {k : ℕ} {bytes : List ℕ} → RightModel m → ModelCause m k bytes → ⊥
 model-right right (ModelCause.unfit r before short) = short (right .sections r .fits)
 model-right right (ModelCause.wrong {k} r before fit n there earlier w least) = right .sections r .records n there k w
 model-right right (ModelCause.after sections more) = omega (arith, right .ends)

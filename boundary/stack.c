@@ -7,8 +7,8 @@
 #include <string.h>
 #include <ucontext.h>
 
-/* The most bytes that each may take: for the check and closing what request 3 asks for, else what was measured and a tenth. */
-enum { CHECK_LIMIT = 599, CLOSE_LIMIT = 449, PART_LIMIT = 44 };
+/* The most bytes that each may take: what was measured, and a tenth. */
+enum { CHECK_LIMIT = 618, CLOSE_LIMIT = 477, PART_LIMIT = 44 };
 
 enum { STACK = 1 << 20, FACTS = 4096, STORED = 32, HEADS = 64, NEVER = FACTS - 1 };
 

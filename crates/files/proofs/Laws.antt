@@ -1,20 +1,16 @@
 -- What a judged model tells the crates above: its bounds, that its facts are below F, and that there is one answer.
 use Prim.Native.Nat.{ℕ, _≤_, _<_}
 use mathlib.Core.Path.{_≡_, refl, _∙_, sym}
-use mathlib.Core.Bool.{Bool, true, false, _||_, cond}
-use mathlib.Core.List.{List, [], _∷_, List·Memᴰ·head, Memᴰ·of-map}
-use mathlib.Core.Option.{none, some, Option·none-ne-some}
+use mathlib.Core.List.{List, List·Memᴰ·head, Memᴰ·of-map}
+use mathlib.Core.Option.{none}
 use native.Mathlib.Omega.{arith}
-use lib.Dec.{ltb}
-use lib.ListN.{length, drop, length-map}
-use lib.Seq.{drop-drop}
+use lib.ListN.{length, length-map}
 use Rattle.sets.specs.Sets.{_∈_}
 use Rattle.meaning.specs.Model.{Clause, Rule, Goal}
-use Rattle.records.specs.Words.{word, words, odd}
-use Rattle.records.specs.Records.{records, listsOf, listOf, whole, cut, cutClause, most, judge, firstFault}
-use Rattle.lists.specs.Lists.{Cut, AllCut}
+use Rattle.records.specs.Records.{records, listOf, most, judge, firstFault}
+use Rattle.lists.specs.Lists.{AllCut}
 use Rattle.records.specs.declared.Kind.the-variants as kind
-use Rattle.lists.proofs.Laws.{judged-count, judged-facts, judged-cut}
+use Rattle.lists.proofs.Laws.{clause-lists, judged-count, judged-facts, judged-cut}
 use Rattle.sections.specs.Sections.{reader}
 use Rattle.sections.specs.declared.Role.the-variants.{Sizes, Initial, Clauses, Rules, Goals}
 use Rattle.files.specs.Files.{sectionOf, factCount, clauseOf, ruleIn, goalIn, modelOf, shapeFault, modelFault}
@@ -27,23 +23,6 @@ use Rattle.files.proofs.Order.{all-fine, sizes-fine, bare-fine}
 pub model-unique : (file : List ℕ) (x y : Judged) → x ≡ judged (modelFault file) (countsOf file)
     → y ≡ judged (modelFault file) (countsOf file) → x ≡ y
 model-unique file x y p q = p ∙ sym q
-
--- The lists of a clause are its head by itself and its body.
-clause-lists : (r : List ℕ) → Cut kind.Clause r
-    → listsOf kind.Clause r ≡ some ((clauseOf r .head ∷ []) ∷ clauseOf r .body ∷ [])
-unfolding Cut listsOf clauseOf cut cutClause
-clause-lists r (lists, e) = rw (← drop-drop 2 2 r) (go (whole r) (odd body || ltb (length body) 2) e)
-  where
-    body : List ℕ
-    body = drop 2 r
-
-    go : (fits short : Bool)
-        → cond fits (cond short none (some ((word body ∷ []) ∷ words (drop 2 body) ∷ []))) none ≡ some lists
-        → cond fits (cond short none (some ((word body ∷ []) ∷ words (drop 2 body) ∷ []))) none
-        ≡ some ((word body ∷ []) ∷ words (drop 2 body) ∷ [])
-    go true true h = absurd (Option·none-ne-some _ h)
-    go true false h = refl
-    go false short h = absurd (Option·none-ne-some _ h)
 
 -- every fact of the list is below F
 abbrev pub Below : ℕ → List ℕ → Type 0

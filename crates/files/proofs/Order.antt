@@ -91,8 +91,10 @@ module _ (file : List ℕ) (F : ℕ) where
       -- None are: nothing is at fault, and the counts are the model's.
       pub onward-end : length file ≤ at → (shapeFault file ≡ none) × (n ≡ countsOf file)
       unfolding faultFrom notedFrom leftOver
-      onward-end done =
-          (on .fault ∙ rw (drop-of-length-le roles h, le-ltb _ _ done), sym (on .counts ∙ rw (drop-of-length-le roles h)))
+      onward-end done = (
+        on .fault ∙ rw (drop-of-length-le roles h, le-ltb _ _ done),
+        sym (on .counts ∙ rw (drop-of-length-le roles h)),
+      )
 
 -- ---- the sizes and bare numbers
 
@@ -125,7 +127,9 @@ facts-there F file e =
 pub bare-even : (F : ℕ) (bytes : List ℕ) → bare F bytes ≡ none → odd bytes ≡ false
 unfolding bare
 bare-even F bytes e =
-    not-given _ _ (neither (given (odd bytes) 4) (given (any (leb F) (words bytes)) 6 orElse given (not (ascending (words bytes))) 7) e .0)
+    not-given _ _
+    (neither (given (odd bytes) 4)
+    (given (any (leb F) (words bytes)) 6 orElse given (not (ascending (words bytes))) 7) e .0)
 
 -- and are below F and strictly ascending.
 pub bare-fine : (F : ℕ) (bytes : List ℕ) → bare F bytes ≡ none
@@ -133,8 +137,10 @@ pub bare-fine : (F : ℕ) (bytes : List ℕ) → bare F bytes ≡ none
 unfolding bare
 bare-fine F bytes e =
     let facts = words bytes in
-    let (even, rest) = neither (given (odd bytes) 4) (given (any (leb F) facts) 6 orElse given (not (ascending facts)) 7) e in
+    let (even, rest) =
+    neither (given (odd bytes) 4) (given (any (leb F) facts) 6 orElse given (not (ascending facts)) 7) e in
     let (known, ordered) = neither (given (any (leb F) facts) 6) (given (not (ascending facts)) 7) rest in (
-      λ f m. leb-false F f (is-false (λ t. fails (not-given (any (leb F) facts) 6 known) (any-intro (leb F) facts f m t))),
+      λ f m. leb-false F f
+          (is-false (λ t. fails (not-given (any (leb F) facts) 6 known) (any-intro (leb F) facts f m t))),
       not-false _ (not-given _ _ ordered),
     )

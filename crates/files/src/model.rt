@@ -63,7 +63,8 @@ fn note(counts: Counts, role: Role, count: usize) -> Counts
 
 // F as the sizes have it, where they are fine. Judging them asks for no F.
 fn facts_told(model: &[u8]) -> usize
-    ensures { λ r. let file = now (model .entry) in ⌜ (inSection (reader Role.Sizes r) file 1 ≡ none → r ≡ factCount file) ⌝ }
+    ensures { λ r. let file = now (model .entry) in
+        ⌜ (inSection (reader Role.Sizes r) file 1 ≡ none → r ≡ factCount file) ⌝ }
 {
     if model.len() < 7 {
         return 0;

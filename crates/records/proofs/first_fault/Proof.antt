@@ -54,7 +54,8 @@ size-is : (c : tie.Else1 Inv-loop μ-loop)
 size-is c = judged-whole _ _ _ _ (sym (c .if1 .left) ∙ c .before .record-number .ensures)
 
 -- so its length tells the next place
-next-is : (c : tie.After-word-at Inv-loop μ-loop) → 2 + c .word-at .result ≡ length (now (c .before .before .before .record-at .result))
+next-is : (c : tie.After-word-at Inv-loop μ-loop)
+    → 2 + c .word-at .result ≡ length (now (c .before .before .before .record-at .result))
 next-is c = omega (arith, c .word-at .ensures, size-is (c .before))
 
 word-at-requires : tie.Need-word-at-requires Inv-loop μ-loop

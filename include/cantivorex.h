@@ -1,11 +1,11 @@
 /* The trace checker for C. Link with libexports.a (`rt staticlib exports` writes it to target/staticlib).
  *
- * Everything is lent: the library keeps no pointer, frees nothing and allocates nothing, and each call stands by itself,
- * so that calls on different buffers may run at the same time. A file is any bytes at all; nothing in one can make a
- * call crash or loop. What a call may write (state, table, out) must overlap no other area of the same call.
+ * Everything is lent: the library keeps no pointer, frees nothing and allocates nothing, and each call stands by
+ * itself, so that calls on different buffers may run at the same time. A file is any bytes at all; nothing in one can
+ * make a call crash or loop. What a call may write (state, table, out) must overlap no other area of the same call.
  *
- * The functions at the bottom, `cantivorex_safe_..`, are the ones to call: they take a null pointer as an area of length
- * 0. The three above them are what the library has, each area as a pointer that is not null and a length.
+ * The functions at the bottom, `cantivorex_safe_..`, are the ones to call: they take a null pointer as an area of
+ * length 0. The three above them are what the library has, each area as a pointer that is not null and a length.
  */
 #ifndef CANTIVOREX_H
 #define CANTIVOREX_H
@@ -66,14 +66,15 @@ enum {
 
 /* The verdict on a model and a trace: answers its number and writes its ten values to the front of `out`.
  * For 1 to 9 state and table stay as they were. For 0, 10 and 11 the first 512 bytes of `state` hold the last state
- * reached (fact f is the bit of value 2^(f mod 8) in byte f/8) and the first 4,096 entries of `table` its round numbers.
- * What lies beyond stays. With an `out` of fewer than 10 entries the answer is 1 and nothing at all is changed. */
+ * reached (fact f is the bit of value 2^(f mod 8) in byte f/8) and the first 4,096 entries of `table` its round
+ * numbers. What lies beyond stays. With an `out` of fewer than 10 entries the answer is 1 and nothing at all is
+ * changed. */
 uint8_t cantivorex_check(const uint8_t *model, size_t model_len, const uint8_t *trace, size_t trace_len,
     uint8_t *state, size_t state_len, uint16_t *table, size_t table_len, uint64_t *out, size_t out_len);
 
 /* Closing by itself, from the state lent: answers 0 and writes the number of rounds to out[0] and the round numbers to
- * the first 4,096 entries of `table`. Otherwise it answers 1 to 7 for what it is lent, or 6 for a state with a fact of F
- * or more, and changes nothing. With an `out` of no entries the answer is 1. */
+ * the first 4,096 entries of `table`. Otherwise it answers 1 to 7 for what it is lent, or 6 for a state with a fact of
+ * F or more, and changes nothing. With an `out` of no entries the answer is 1. */
 uint8_t cantivorex_close(const uint8_t *model, size_t model_len, const uint8_t *state, size_t state_len,
     uint16_t *table, size_t table_len, uint64_t *out, size_t out_len);
 

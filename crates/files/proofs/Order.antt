@@ -2,29 +2,28 @@
 -- the sizes and bare numbers are that have no fault.
 use Prim.Native.Nat.{ℕ, suc, _+_, _-_, _≤_, _<_}
 use mathlib.Core.Path.{_≡_, refl, _∙_, sym, ap}
-use mathlib.Core.Bool.{true, false, not}
-use mathlib.Core.List.{List, [], _∷_}
+use mathlib.Core.Bool.{true, false, not, cond}
+use mathlib.Core.List.{List, _∷_}
 use mathlib.Core.Option.{Option, none, some, Option·some-ne-none}
 use native.Mathlib.Numerals.{add-one}
 use native.Mathlib.Omega.{arith}
-use lib.Dec.{leb, ltb, eqb, lit<}
-use lib.ListN.{length, take, drop, getD, length-map, drop-of-length-le}
-use lib.Seq.{drop-cons, getD-take}
+use lib.Dec.{leb, ltb, eqb}
+use lib.ListN.{length, drop, getD, length-map, drop-of-length-le}
+use lib.Seq.{drop-cons}
 use borrow.Author.Tests.{lt-ltb, le-ltb, leb-false, ltb-false, eqb-true, not-false}
 use Rattle.sets.specs.Sets.{any, _∈_}
 use Rattle.sets.proofs.Laws.{is-false, fails, any-intro}
 use Rattle.records.specs.Words.{word, words, odd, ascending}
-use Rattle.records.specs.Records.{given, _orElse_, records, bare}
+use Rattle.records.specs.Records.{given, _orElse_, bare}
 use Rattle.records.specs.declared.Fault.{Fault}
-use Rattle.sections.specs.Sections.{endAt, sectionAt, payload, inSection, leftOver, allOf, sizes, reader, entries}
+use Rattle.sections.specs.Sections.{endAt, fits, sectionAt, payload, inSection, leftOver, allOf, sizes, reader, entries}
 use Rattle.sections.specs.Answers.{passed}
 use Rattle.sections.specs.declared.Passed.{Passed}
-use Rattle.sections.specs.declared.Role.{Role}
 use Rattle.sections.specs.declared.Role.the-variants.{Sizes, Goals}
 use Rattle.sections.proofs.Fits.{neither, not-given, section-fine}
-use Rattle.sections.proofs.Parts.{Ended, fit-ended, ended-bytes, ended-size}
+use Rattle.sections.proofs.Parts.{fit-end, ended-size}
 use Rattle.sections.proofs.Answers.{passed-to, passed-fault, or-first, or-next}
-use Rattle.files.specs.Files.{roles, tag, indexOf, placeOfRole, sectionOf, factCount, ruleIn, goalIn, modelOf}
+use Rattle.files.specs.Files.{roles, tag, indexOf, placeOfRole, sectionOf, factCount, modelOf}
 use Rattle.files.specs.Files.{faultFrom, shapeFault}
 use Rattle.files.specs.Answers.{countsOf, noted, notedFrom}
 use Rattle.files.specs.declared.Counts.{Counts}
@@ -111,17 +110,15 @@ sizes-fine bytes e =
     let (two, small) = neither (given (not (eqb (length bytes) 2)) 4) (given (ltb 4096 (word bytes)) 5) e in
     (eqb-true _ _ (not-false _ (not-given _ _ two)), ltb-false _ _ (not-given _ _ small))
 
--- In a file whose sizes are fine F is the number in its bytes 5 and 6.
-pub facts-there : (F : ℕ) (file : List ℕ) → inSection (reader Sizes F) file 1 ≡ none
-    → (7 ≤ length file) × (word (drop 5 file) ≡ factCount file)
-unfolding reader factCount sectionOf placeOfRole indexOf roles tag sectionAt word
-facts-there F file e =
+-- Where the sizes are fine, their two bytes end at place 7 of the file.
+pub sizes-end : (F : ℕ) (file : List ℕ) (end : ℕ) → end ≡ cond (fits file 1) (endAt file 1) 0
+    → inSection (reader Sizes F) file 1 ≡ none → end ≡ 7
+unfolding reader
+sizes-end F file end found e =
     let (fit, fine) = section-fine (reader Sizes F) file 1 e in
     let (two, small) = sizes-fine (payload file 1) (all-fine (sizes (payload file 1)) _ fine) in
-    let ended = fit-ended file 1 fit in
-    let ends : endAt file 1 ≡ 7 = omega (arith, ended-size file 1 _ ended) in
-    let bytes : take 2 (drop 5 file) ≡ payload file 1 = rw ends at (ended-bytes file 1 _ ended) in
-    (omega arith, rw (← bytes, getD-take 2 (drop 5 file) 0 0 (lit< tt), getD-take 2 (drop 5 file) 1 0 (lit< tt)))
+    let ended = fit-end file 1 fit found in
+    omega (arith, ended, ended-size file 1 _ ended)
 
 -- Bare numbers with no fault leave no byte over,
 pub bare-even : (F : ℕ) (bytes : List ℕ) → bare F bytes ≡ none → odd bytes ≡ false

@@ -66,10 +66,11 @@ fn facts_told(model: &[u8]) -> usize
     ensures { λ r. let file = now (model .entry) in
         ⌜ (inSection (reader Role.Sizes r) file 1 ≡ none → r ≡ factCount file) ⌝ }
 {
-    if model.len() < 7 {
+    let end = sections::section_end(model, 1);
+    if end < 7 {
         return 0;
     }
-    records::word_at(model, 5)
+    records::word_at(&model[5..end], 0)
 }
 
 // The model's first fault of 4 to 7, or its counts.

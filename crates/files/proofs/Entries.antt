@@ -56,7 +56,7 @@ answer goals rules file = passed (traceFault goals rules file) (endAt file 1) (l
 
 -- A trace whose section doesn't fit is at fault there.
 pub answer-unfit : (goals rules : ℕ) (file : List ℕ) → fits file 1 ≡ false
-    → passed (some (restFault file 1)) 0 0 ≡ answer goals rules file
+    → Passed.Fault (restFault file 1) ≡ answer goals rules file
 unfolding traceFault sectionAt inSection _orElse_ passed
 answer-unfit goals rules file unfit = rw unfit
 
@@ -95,7 +95,7 @@ module _ (goals rules : ℕ) (file : List ℕ) (end : ℕ) (ended : Ended file 1
     whole = rw (odd-is, even, le-ltb _ _ long)
 
     -- It is 4 for the bytes after the section.
-    pub answer-left : end < length file → passed (some (restFault file end)) 0 0 ≡ answer goals rules file
+    pub answer-left : end < length file → Passed.Fault (restFault file end) ≡ answer goals rules file
     unfolding leftOver given _orElse_ passed
     answer-left h = rw (chain, whole, lt-ltb _ _ h)
 

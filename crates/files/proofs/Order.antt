@@ -16,7 +16,8 @@ use Rattle.sets.proofs.Laws.{is-false, fails, any-intro}
 use Rattle.records.specs.Words.{word, words, odd, ascending}
 use Rattle.records.specs.Records.{given, _orElse_, bare}
 use Rattle.records.specs.declared.Fault.{Fault}
-use Rattle.sections.specs.Sections.{endAt, fits, sectionAt, payload, inSection, leftOver, allOf, sizes, reader, entries}
+use Rattle.sections.specs.Sections.{endAt, fits, sectionAt, payload, inSection, restFault, leftOver, allOf, sizes}
+use Rattle.sections.specs.Sections.{reader, entries}
 use Rattle.sections.specs.Answers.{passed}
 use Rattle.sections.specs.declared.Passed.{Passed}
 use Rattle.sections.specs.declared.Role.the-variants.{Sizes, Goals}
@@ -82,8 +83,7 @@ module _ (file : List ℕ) (F : ℕ) where
 
     module _ (h : length roles ≤ i) where
       -- After the last section bytes are left over.
-      pub onward-left : at < length file
-          → shapeFault file ≡ some (record { number = 4; start = at; size = length file - at })
+      pub onward-left : at < length file → shapeFault file ≡ some (restFault file at)
       unfolding faultFrom leftOver
       onward-left more = on .fault ∙ rw (drop-of-length-le roles h, lt-ltb _ _ more)
 

@@ -8,7 +8,6 @@ ghost use Rattle.files.specs.Files.{roles, indexOf, factCount, shapeFaul
 ghost use Rattle.files.specs.Answers.{countsOf, judged, noted};
 use super::Counts;
 use super::Judged;
-use records::Fault;
 use sections::Passed;
 use sections::Role;
 use sections::head;
@@ -93,12 +92,7 @@ pub fn judge_shape(model: &[u8]) -> Judged
         i += 1;
     }
     if at < model.len() {
-        let size = model.len() - at;
-        return Judged::Fault(Fault {
-            number: 4,
-            start: at,
-            size,
-        });
+        return Judged::Fault(sections::rest_fault(model, at));
     }
     Judged::Fine(counts)
 }

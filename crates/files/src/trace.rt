@@ -19,7 +19,7 @@ pub fn judge_trace(trace: &[u8], goals: usize, rules: usize) -> Passed
 {
     let end = sections::section_end(trace, 1);
     if end == 0 {
-        return sections::rest_fault(trace, 1);
+        return Passed::Fault(sections::rest_fault(trace, 1));
     }
     let entries = &trace[5..end];
     let size = entries.len();
@@ -31,7 +31,7 @@ pub fn judge_trace(trace: &[u8], goals: usize, rules: usize) -> Passed
         });
     }
     if end < trace.len() {
-        return sections::rest_fault(trace, end);
+        return Passed::Fault(sections::rest_fault(trace, end));
     }
     let steps = size / 2 - 1;
     if 1024 < steps {

@@ -174,11 +174,11 @@ module _ (file : List ℕ) (at : ℕ) where
   ended-bytes end s = rw (s .is) (payload-part file at)
 
   -- A section whose length doesn't fit is at fault there, whatever its reader would find.
-  pub unfit-answer : (reader : List ℕ → Option Fault) (end count : ℕ) {e : ℕ} {r : Passed}
-      → e ≡ cond (fits file at) (endAt file at) 0 → e ≡ 0 → r ≡ passed (some (restFault file at)) 0 0
-      → r ≡ passed (inSection reader file at) end count
+  pub unfit-answer : (reader : List ℕ → Option Fault) (end count : ℕ) {e : ℕ} {f : Fault}
+      → e ≡ cond (fits file at) (endAt file at) 0 → e ≡ 0 → f ≡ restFault file at
+      → Passed.Fault f ≡ passed (inSection reader file at) end count
   unfolding passed inSection
-  unfit-answer reader end count found none-there rest = rest ∙ rw (no-end _ found none-there)
+  unfit-answer reader end count found none-there rest = rw (rest, no-end _ found none-there)
 
   -- Of any other the reader's fault tells, at its place in the file.
   pub fit-fault : (reader : List ℕ → Option Fault) → fits file at ≡ true

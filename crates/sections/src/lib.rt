@@ -2,7 +2,6 @@
 // version.
 ghost use mathlib.Core.Path.{_≡_};
 ghost use mathlib.Core.Bool.{not, cond};
-ghost use mathlib.Core.Option.{some};
 ghost use Prim.Native.Nat.{_+_, _≤_, _<_};
 ghost use lib.Dec.{eqb};
 ghost use lib.ListN.{length, drop};
@@ -58,19 +57,19 @@ pub fn section_end(file: &[u8], at: usize) -> usize
     start + size
 }
 
-// The fault of a section's length that doesn't fit: the rest of the file.
-pub fn rest_fault(file: &[u8], at: usize) -> Passed
-    ensures { λ r. ⌜ r ≡ passed (some (restFault (now (file .entry)) at)) 0 0 ⌝ }
+// The fault of a file from a place on to its end.
+pub fn rest_fault(file: &[u8], at: usize) -> Fault
+    ensures { λ r. ⌜ r ≡ restFault (now (file .entry)) at ⌝ }
 {
     let mut size = 0;
     if at < file.len() {
         size = file.len() - at;
     }
-    Passed::Fault(Fault {
+    Fault {
         number: 4,
         start: at,
         size,
-    })
+    }
 }
 
 // A fault found in a part of the file from `by` on, at its place in the file. The caller has seen that the place is in
@@ -134,7 +133,7 @@ pub fn judge_section(file: &[u8], at: usize, role: Role, facts: usize) -> Passed
 {
     let end = section_end(file, at);
     if end == 0 {
-        return rest_fault(file, at);
+        return Passed::Fault(rest_fault(file, at));
     }
     let by = at + 4;
     match read(&file[by..end], role, facts) {

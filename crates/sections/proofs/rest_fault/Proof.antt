@@ -5,7 +5,6 @@ use native.Mathlib.Omega.{arith}
 use lib.ListN.{length}
 use denote.Ref.{now}
 use Rattle.sections.specs.Sections.{restFault}
-use Rattle.sections.specs.Answers.{passed}
 use borrow.Author.Needs.{needs}
 use Rattle.sections.proofs.rest_fault.Statement.{statement}
 use Rattle.sections.proofs.rest_fault.Tie as tie
@@ -14,11 +13,11 @@ sub-size : tie.Need-sub-size
 sub-size c = search needs
 
 returns : tie.Need-returns
-unfolding passed restFault
+unfolding restFault
 returns c = refl
 
 returns-2 : tie.Need-returns-2
-unfolding passed restFault
+unfolding restFault
 returns-2 c =
     let args = c .before .args in
     let nothing : length (now (args .file)) - args .at ≡ 0 = omega arith in

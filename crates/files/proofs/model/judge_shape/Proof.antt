@@ -90,12 +90,14 @@ loop-again c =
     rw (c .note .ensures, asked .before .role-at .ensures)
     (onward-next _ _ (on asked) (more asked) (section-is asked) (c .before .before .end .given .1))
 
-sub-size : tie.Need-sub-size Inv-loop μ-loop
-sub-size c = omega arith
+rest-fault-requires : tie.Need-rest-fault-requires Inv-loop μ-loop
+rest-fault-requires c κs = search needs
 
 returns-2 : tie.Need-returns-2 Inv-loop μ-loop
 returns-2 c =
-    judged-some _ _ _ (onward-left _ _ (c .before .before .loop .inv) (all-sections (c .before)) (c .if1 .taken))
+    let done = c .before .before in
+    rw (c .rest-fault .ensures)
+    (judged-some _ _ _ (onward-left _ _ (done .before .loop .inv) (all-sections done) (c .before .if1 .taken)))
 
 returns-3 : tie.Need-returns-3 Inv-loop μ-loop
 returns-3 c =
@@ -119,6 +121,6 @@ judge-shape-spec =
     add-i
     loop-less
     loop-again
-    sub-size
+    rest-fault-requires
     returns-2
     returns-3)

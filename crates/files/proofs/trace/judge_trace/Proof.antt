@@ -1,6 +1,6 @@
 -- `trace::judge_trace` meets its contract: its tests are those of the trace's fault, in the same order.
 use Prim.Native.Nat.{ℕ, _-_}
-use mathlib.Core.Path.{_≡_, _∙_}
+use mathlib.Core.Path.{_≡_, _∙_, ap}
 use mathlib.Core.Logic.{inl, inr, ⊎-elim}
 use mathlib.Core.List.{List}
 use native.Mathlib.Omega.{arith}
@@ -8,6 +8,7 @@ use borrow.Author.Needs.{needs}
 use denote.Ref.{now}
 use lib.ListN.{take, drop}
 use Rattle.sections.specs.Sections.{payload}
+use Rattle.sections.specs.declared.Passed.{Passed}
 use Rattle.sections.proofs.Parts.{Ended, no-end, some-end, ended-bytes}
 use Rattle.files.proofs.Entries.{answer-unfit, answer-shape, answer-left, answer-count, Counted}
 use Rattle.files.proofs.Entries.{answer-name, answer-fine}
@@ -34,7 +35,7 @@ rest-fault-requires c κs = search needs
 
 returns : tie.Need-returns
 returns c =
-    c .rest-fault .ensures
+    ap Passed.Fault (c .rest-fault .ensures)
     ∙ answer-unfit _ _ _ (no-end _ 1 _ (c .before .before .section-end .ensures) (c .before .if1 .taken))
 
 sub-entries : tie.Need-sub-entries
@@ -58,7 +59,7 @@ returns-3 : tie.Need-returns-3
 returns-3 c =
     let odd = c .before .before in
     let e = odd .before .before .before in
-    c .rest-fault2 .ensures
+    ap Passed.Fault (c .rest-fault2 .ensures)
     ∙ answer-left _ _ _ _ (ended e) _ (bytes e) (odd .before .if2 .left) (odd .if3 .left) (c .before .if4 .taken)
 
 sub-steps : tie.Need-sub-steps

@@ -23,7 +23,7 @@ use Rattle.sections.specs.declared.Role.the-variants.{Sizes, Initial, Clauses, 
 unfoldable pub roles : List Role
 roles = Sizes ∷ Initial ∷ Clauses ∷ Rules ∷ Goals ∷ []
 
--- a number for each role, to tell them apart
+-- the role's place in that list, by which the sections' order is told
 unfoldable pub tag : Role → ℕ
 tag Sizes = 0
 tag Initial = 1

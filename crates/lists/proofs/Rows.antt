@@ -9,7 +9,7 @@ use lib.Dec.{leb, ltb}
 use lib.ListN.{length, drop, replicate}
 use Rattle.sets.specs.Sets.{any}
 use Rattle.records.specs.Words.{word, words}
-use Rattle.records.specs.Records.{rows, listCount, cut, listsOf, tooLong, tooLarge, anyList}
+use Rattle.records.specs.Records.{rows, listCount, cut, listsOf, overLong, tooLarge, anyList}
 use Rattle.records.specs.declared.Row.{Row}
 use Rattle.records.specs.declared.Kind.{Kind}
 use Rattle.records.specs.declared.Kind.the-variants.{Clause, Rule, Goal}
@@ -34,7 +34,7 @@ alike-any p row (suc k) (l ∷ lists) e = ap (λ (b : Bool). p row l || b) (alik
 
 -- what asking the rows comes to, for the lists of a record
 pub record Asked (K : Kind) (F : ℕ) (lists : List (List ℕ)) : Type 0 where
-  pub long : anyList tooLong (rows K F) lists ≡ any (λ l. ltb (longest K) (length l)) lists
+  pub long : anyList overLong (rows K F) lists ≡ any (λ l. ltb (longest K) (length l)) lists
   pub large : anyList tooLarge (rows K F) lists ≡ any (any (leb F)) lists
 
 asked-clause : (F head : ℕ) (body : List ℕ) → Asked Clause F ((head ∷ []) ∷ body ∷ [])
@@ -44,7 +44,7 @@ asked-clause F head body = record { long = refl; large = refl }
 asked-alike : (K : Kind) (F : ℕ) (lists : List (List ℕ)) (k : ℕ) → length lists ≡ k
     → rows K F ≡ replicate k (record { longest = longest K; limit = F }) → Asked K F lists
 asked-alike K F lists k n e = record {
-  long = ap (λ (rs : List Row). anyList tooLong rs lists) e ∙ alike-any tooLong _ k lists n;
+  long = ap (λ (rs : List Row). anyList overLong rs lists) e ∙ alike-any overLong _ k lists n;
   large = ap (λ (rs : List Row). anyList tooLarge rs lists) e ∙ alike-any tooLarge _ k lists n;
 }
 

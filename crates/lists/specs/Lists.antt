@@ -9,7 +9,6 @@ use Rattle.sets.specs.Sets.{_∈_}
 use Rattle.records.specs.Words.{word, words, odd}
 use Rattle.records.specs.Records.{records, listsOf, listOf}
 use Rattle.records.specs.declared.Kind.{Kind}
-unfoldable pub use Rattle.records.specs.Records.{listCount}
 
 -- the record's lists fill it
 unfoldable pub Cut : Kind → List ℕ → Type 0

@@ -1,6 +1,7 @@
 // What judged records hold: the lists of a rule or an attack state.
 ghost use Prim.Native.Nat.{_<_};
-ghost use Rattle.lists.specs.Lists.{Cut, listCount, ListBytes};
+ghost use Rattle.records.specs.Records.{listCount};
+ghost use Rattle.lists.specs.Lists.{Cut, ListBytes};
 use records::Kind;
 
 // The bytes of list j of a rule or an attack state. The caller has judged the record.

@@ -13,7 +13,7 @@ use Rattle.sets.specs.Sets.{any}
 use Rattle.sets.proofs.Laws.{by-test}
 use Rattle.records.specs.Words.{word, ascending}
 use Rattle.records.specs.Records.{given, _orElse_, rows, listCount, cut, listsOf}
-use Rattle.records.specs.Records.{most, tooLong, tooLarge, anyList, judge}
+use Rattle.records.specs.Records.{most, overLong, tooLarge, anyList, judge}
 use Rattle.records.specs.Answers.{code}
 use Rattle.records.specs.Contracts.{pickedOf, before}
 use Rattle.records.specs.declared.Kind.{Kind}
@@ -84,7 +84,7 @@ pub record Judged (K : Kind) (F n : ℕ) (r : List ℕ) : Type 0 where
   pub lists : List (List ℕ)
   pub fill : listsOf K r ≡ some lists
   pub counted : leb (most K) n ≡ false
-  pub short : anyList tooLong (rows K F) lists ≡ false
+  pub short : anyList overLong (rows K F) lists ≡ false
   pub known : anyList tooLarge (rows K F) lists ≡ false
   pub ordered : any (λ l. not (ascending l)) lists ≡ false
 

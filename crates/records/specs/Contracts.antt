@@ -7,7 +7,7 @@ use mathlib.Core.Option.{Option, none, some}
 use lib.Dec.{leb}
 use Rattle.sets.specs.Sets.{any}
 use Rattle.records.specs.Words.{words, ascending}
-use Rattle.records.specs.Records.{given, _orElse_, most, tooLong, tooLarge, anyList}
+use Rattle.records.specs.Records.{given, _orElse_, most, overLong, tooLarge, anyList}
 use Rattle.records.specs.declared.Kind.{Kind}
 use Rattle.records.specs.declared.Marks.{Marks}
 use Rattle.records.specs.declared.Row.{Row}
@@ -19,7 +19,7 @@ before K n = record { count = leb (most K) n; fact = false; order = false }
 
 -- the marks r are those of m and of one more list, which these bytes are
 pub record Marked (bytes : List ℕ) (row : Row) (m r : Marks) : Type 0 where
-  pub count : r .count ≡ (m .count || tooLong row (words bytes))
+  pub count : r .count ≡ (m .count || overLong row (words bytes))
   pub fact : r .fact ≡ (m .fact || tooLarge row (words bytes))
   pub order : r .order ≡ (m .order || not (ascending (words bytes)))
 
@@ -35,7 +35,7 @@ pickedOf rows m none = some 4
 pickedOf rows m (some lists) =
     picked
     (record {
-      count = m .count || anyList tooLong rows lists;
+      count = m .count || anyList overLong rows lists;
       fact = m .fact || anyList tooLarge rows lists;
       order = m .order || any (λ l. not (ascending l)) lists;
     })

@@ -122,8 +122,8 @@ most Rule = 2048
 most Goal = 64
 
 -- a list longer than its row allows
-abbrev pub tooLong : Row → List ℕ → Bool
-tooLong row l = ltb (row .longest) (length l)
+abbrev pub overLong : Row → List ℕ → Bool
+overLong row l = ltb (row .longest) (length l)
 
 -- a list with a number that its row doesn't allow
 abbrev pub tooLarge : Row → List ℕ → Bool
@@ -143,7 +143,7 @@ judge K F n r =
     elim (listsOf K r) [
       | none ↦ some 4
       | some lists ↦
-          given (leb (most K) n || anyList tooLong (rows K F) lists) 5
+          given (leb (most K) n || anyList overLong (rows K F) lists) 5
           orElse given (anyList tooLarge (rows K F) lists) 6
           orElse given (any (λ l. not (ascending l)) lists) 7
     ]

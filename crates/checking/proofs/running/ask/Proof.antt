@@ -11,7 +11,8 @@ use Rattle.meaning.specs.Run.{conditions, unmet}
 use Rattle.records.specs.Words.{word}
 use Rattle.records.specs.Records.{records}
 use Rattle.records.specs.declared.Kind.the-variants as kind
-use Rattle.lists.specs.Lists.{Cut, ListBytes, listCount}
+use Rattle.records.specs.Records.{listCount}
+use Rattle.lists.specs.Lists.{Cut, ListBytes}
 use Rattle.sections.specs.declared.Role.the-variants.{Goals}
 use Rattle.files.specs.Files.{modelOf, traceOf, sectionOf}
 use Rattle.files.specs.Known.{Known}

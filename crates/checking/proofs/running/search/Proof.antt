@@ -17,7 +17,8 @@ use Rattle.facts.specs.Facts.{members}
 use Rattle.records.specs.Words.{word, words}
 use Rattle.records.specs.Records.{records}
 use Rattle.records.specs.declared.Kind.the-variants as kind
-use Rattle.lists.specs.Lists.{Cut, ListBytes, listCount}
+use Rattle.records.specs.Records.{listCount}
+use Rattle.lists.specs.Lists.{Cut, ListBytes}
 use Rattle.sections.specs.declared.Role.the-variants.{Rules}
 use Rattle.files.specs.Files.{pairFault, shapeFault, modelOf, traceOf, sectionOf}
 use Rattle.files.specs.Known.{Known}

@@ -8,6 +8,9 @@ int main(void)
     static uint8_t state[512], part[4];
     static uint16_t table[4096];
     static const uint8_t file[5] = {1, 0, 0, 0, 0};
+    /* 5 facts; clauses 0, 1 and 2 from nothing; two rules and one attack state without conditions */
+    static const uint8_t model[] = {1, 0, 0, 0, 2, 0, 5, 0, 0, 0, 0, 0, 0, 0, 12, 0, 2, 0, 0, 0, 2, 0, 1, 0, 2, 0, 2,
+        0, 0, 0, 16, 0, 6, 0, 0, 0, 0, 0, 0, 0, 6, 0, 0, 0, 0, 0, 0, 0, 0, 0, 6, 0, 4, 0, 0, 0, 0};
     uint64_t out[10];
     memset(state, JUNK, sizeof state);
     memset(part, JUNK, sizeof part);
@@ -22,6 +25,11 @@ int main(void)
     expect("no state to close", cantivorex_safe_close(file, 5, NULL, 512, table, 4096, out, 10), CANTIVOREX_ROOM);
     expect("no table to close", cantivorex_safe_close(file, 5, state, 512, NULL, 4096, out, 10), CANTIVOREX_ROOM);
     expect("all null to close", cantivorex_safe_close(NULL, 5, NULL, 512, NULL, 4096, NULL, 10), CANTIVOREX_ROOM);
+    expect("no out to count", cantivorex_safe_count(model, sizeof model, NULL, 4), CANTIVOREX_ROOM);
+    expect("a short out to count", cantivorex_safe_count(model, sizeof model, out, 3), CANTIVOREX_ROOM);
+    expect("all null to count", cantivorex_safe_count(NULL, 5, NULL, 4), CANTIVOREX_ROOM);
+    expect("no model to count", cantivorex_safe_count(NULL, 5, out, 4), CANTIVOREX_VERSION);
+    expect("half a model to count", cantivorex_safe_count(file, 5, out, 4), CANTIVOREX_SHAPE);
     expect("no part", cantivorex_safe_part(NULL, 5, NULL, 5, 0, 0, 5, part, 4), 0);
     expect("another mark", cantivorex_safe_part(file, 5, file, 5, 2, 0, 5, part, 4), 0);
     expect("a place beyond", cantivorex_safe_part(file, 5, file, 5, 1, SIZE_MAX, SIZE_MAX, part, 4), 0);
@@ -31,6 +39,13 @@ int main(void)
     expect("no room for a part", cantivorex_safe_part(file, 5, NULL, 0, 0, 0, SIZE_MAX, NULL, 4), 5);
     expect("a part", cantivorex_safe_part(file, 5, NULL, 0, 0, 0, 2, part, 4), 2);
     expect("a part's bytes", part[0] == 1 && part[1] == 0 && all(part + 2, 2, JUNK), 1);
+    /* A model's figures, and nothing after them. */
+    expect("a model to count", cantivorex_safe_count(model, sizeof model, out, 10), 0);
+    expect("its facts", out[CANTIVOREX_HAS_FACTS], 5);
+    expect("its clauses", out[CANTIVOREX_HAS_CLAUSES], 3);
+    expect("its rules", out[CANTIVOREX_HAS_RULES], 2);
+    expect("its attack states", out[CANTIVOREX_HAS_GOALS], 1);
+    expect("nothing after them", all(out + CANTIVOREX_HAS_ENTRIES, 6 * sizeof *out, JUNK), 1);
     /* Room for the verdict: the refusal is written there. */
     expect("no state", cantivorex_safe_check(file, 5, file, 5, NULL, 512, table, 4096, out, 10), CANTIVOREX_ROOM);
     expect("no table", cantivorex_safe_check(file, 5, file, 5, state, 512, NULL, 4096, out, 10), CANTIVOREX_ROOM);

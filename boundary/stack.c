@@ -8,7 +8,7 @@
 #include <ucontext.h>
 
 /* The most bytes that each may take: what was measured, and a tenth. */
-enum { CHECK_LIMIT = 618, CLOSE_LIMIT = 477, PART_LIMIT = 44 };
+enum { CHECK_LIMIT = 618, CLOSE_LIMIT = 477, COUNT_LIMIT = 442, PART_LIMIT = 44 };
 
 enum { STACK = 1 << 20, FACTS = 4096, STORED = 32, HEADS = 64, NEVER = FACTS - 1 };
 
@@ -22,7 +22,7 @@ static uint8_t state[CANTIVOREX_STATE_BYTES], part[65537];
 static uint16_t table[CANTIVOREX_TABLE_ENTRIES];
 static uint64_t out[CANTIVOREX_OUT_ENTRIES];
 
-/* What a pair of files is made of, and what the check and the closing answer. */
+/* What a pair of files is made of, and what the check and the closing answer; the count answers as the closing. */
 struct pair {
     const char *name;
     uint8_t check, close;
@@ -168,7 +168,7 @@ static const struct pair pairs[] = {
 };
 
 static uint8_t answer;
-static size_t room = sizeof state;
+static size_t room = sizeof state, figures = CANTIVOREX_HAS_ENTRIES;
 
 static void nothing(void)
 {
@@ -184,6 +184,11 @@ static void check_it(void)
 {
     answer = cantivorex_check(model.bytes, model.len, trace.bytes, trace.len, state, room, table,
         CANTIVOREX_TABLE_ENTRIES, out, CANTIVOREX_OUT_ENTRIES);
+}
+
+static void count_it(void)
+{
+    answer = cantivorex_count(model.bytes, model.len, out, figures);
 }
 
 /* The part that the check found. */
@@ -212,7 +217,7 @@ static size_t depth(void (*run)(void))
 }
 
 /* The deepest of each function so far. */
-static size_t check_most, close_most, part_most;
+static size_t check_most, close_most, count_most, part_most;
 
 static void keep_most(size_t *most, size_t taken)
 {
@@ -220,7 +225,7 @@ static void keep_most(size_t *most, size_t taken)
         *most = taken;
 }
 
-/* One row: all three functions on the files as they are. */
+/* One row: all four functions on the files as they are. */
 static void measure(const char *name, uint64_t check, uint64_t close)
 {
     size_t empty = depth(nothing);
@@ -228,12 +233,16 @@ static void measure(const char *name, uint64_t check, uint64_t close)
     memset(state, 0xFF, STORED / 8);
     size_t closing = depth(close_it) - empty;
     expect("closing's answer", answer, close);
+    size_t counting = depth(count_it) - empty;
+    expect("the count's answer", answer, close);
     size_t checking = depth(check_it) - empty;
     expect("the check's answer", answer, check);
     size_t placing = depth(part_of_it) - empty;
-    printf("%-34s %2llu %8zu %8zu %8zu\n", name, (unsigned long long)check, checking, closing, placing);
+    printf("%-34s %2llu %8zu %8zu %8zu %8zu\n", name, (unsigned long long)check, checking, closing, counting,
+        placing);
     keep_most(&check_most, checking);
     keep_most(&close_most, closing);
+    keep_most(&count_most, counting);
     keep_most(&part_most, placing);
 }
 
@@ -245,7 +254,7 @@ static void limit(const char *name, size_t most, size_t allowed)
 
 int main(void)
 {
-    printf("%-34s %2s %8s %8s %8s\n", "bytes of stack", "", "check", "close", "part");
+    printf("%-34s %2s %8s %8s %8s %8s\n", "bytes of stack", "", "check", "close", "count", "part");
     for (size_t i = 0; i < sizeof pairs / sizeof *pairs; i++) {
         write_model(&pairs[i]);
         write_trace(&pairs[i]);
@@ -254,9 +263,11 @@ int main(void)
         measure(pairs[i].name, pairs[i].check, pairs[i].close);
     }
     room = sizeof state - 1;
-    measure("a state of 511 bytes", CANTIVOREX_ROOM, CANTIVOREX_ROOM);
+    figures = CANTIVOREX_HAS_ENTRIES - 1;
+    measure("511 bytes for a state, 3 figures", CANTIVOREX_ROOM, CANTIVOREX_ROOM);
     limit("cantivorex_check", check_most, CHECK_LIMIT);
     limit("cantivorex_close", close_most, CLOSE_LIMIT);
+    limit("cantivorex_count", count_most, COUNT_LIMIT);
     limit("cantivorex_part", part_most, PART_LIMIT);
     return summary();
 }

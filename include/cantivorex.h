@@ -5,7 +5,7 @@
  * make a call crash or loop. What a call may write (state, table, out) must overlap no other area of the same call.
  *
  * The functions at the bottom, `cantivorex_safe_..`, are the ones to call: they take a null pointer as an area of
- * length 0. The three above them are what the library has, each area as a pointer that is not null and a length.
+ * length 0. The four above them are what the library has, each area as a pointer that is not null and a length.
  */
 #ifndef CANTIVOREX_H
 #define CANTIVOREX_H
@@ -37,7 +37,8 @@ enum {
 enum {
     CANTIVOREX_STATE_BYTES = 512,
     CANTIVOREX_TABLE_ENTRIES = 4096,
-    CANTIVOREX_OUT_ENTRIES = 10 /* of a check; closing needs one */
+    CANTIVOREX_OUT_ENTRIES = 10, /* of a check; closing needs one */
+    CANTIVOREX_HAS_ENTRIES = 4   /* of a count */
 };
 
 /* Where a verdict's values stand in `out`. */
@@ -52,6 +53,14 @@ enum {
     CANTIVOREX_OUT_MARK = 7,   /* whose bytes are at fault: 0 the model's, 1 the trace's */
     CANTIVOREX_OUT_START = 8,  /* where they start */
     CANTIVOREX_OUT_SIZE = 9    /* how many they are */
+};
+
+/* Where a model's figures stand in `out`. */
+enum {
+    CANTIVOREX_HAS_FACTS = 0, /* F: its facts are the numbers below it */
+    CANTIVOREX_HAS_CLAUSES = 1,
+    CANTIVOREX_HAS_RULES = 2,
+    CANTIVOREX_HAS_GOALS = 3 /* its attack states */
 };
 
 /* Which condition is not met: none for any number but 10 and 11. */
@@ -78,13 +87,18 @@ uint8_t cantivorex_check(const uint8_t *model, size_t model_len, const uint8_t *
 uint8_t cantivorex_close(const uint8_t *model, size_t model_len, const uint8_t *state, size_t state_len,
     uint16_t *table, size_t table_len, uint64_t *out, size_t out_len);
 
+/* What a model has: answers 0 and writes how many facts, clauses, rules and attack states to the front of `out`.
+ * Otherwise it answers 2 to 7 for the model and changes nothing. With an `out` of fewer than 4 entries the answer is
+ * 1. */
+uint8_t cantivorex_count(const uint8_t *model, size_t model_len, uint64_t *out, size_t out_len);
+
 /* The bytes at a place of the file marked (0 the model, 1 the trace), as far as the file has them; for any other mark
  * none. Answers how many they are, and copies them to the front of `out` as far as it has room. Every mark, start and
  * size is fine. */
 size_t cantivorex_part(const uint8_t *model, size_t model_len, const uint8_t *trace, size_t trace_len, uint8_t mark,
     size_t start, size_t size, uint8_t *out, size_t out_len);
 
-/* The same three, with a null pointer as an area of length 0: a null file is an empty one (VERSION), a null buffer one
+/* The same four, with a null pointer as an area of length 0: a null file is an empty one (VERSION), a null buffer one
  * without room (ROOM). */
 static inline uint8_t cantivorex_safe_check(const uint8_t *model, size_t model_len, const uint8_t *trace,
     size_t trace_len, uint8_t *state, size_t state_len, uint16_t *table, size_t table_len, uint64_t *out,
@@ -104,6 +118,13 @@ static inline uint8_t cantivorex_safe_close(const uint8_t *model, size_t model_l
     return cantivorex_close(model ? model : (const uint8_t *)&nothing, model ? model_len : 0,
         state ? state : (const uint8_t *)&nothing, state ? state_len : 0, table ? table : (uint16_t *)&nothing,
         table ? table_len : 0, out ? out : &nothing, out ? out_len : 0);
+}
+
+static inline uint8_t cantivorex_safe_count(const uint8_t *model, size_t model_len, uint64_t *out, size_t out_len)
+{
+    uint64_t nothing = 0;
+    return cantivorex_count(model ? model : (const uint8_t *)&nothing, model ? model_len : 0, out ? out : &nothing,
+        out ? out_len : 0);
 }
 
 static inline size_t cantivorex_safe_part(const uint8_t *model, size_t model_len, const uint8_t *trace,

@@ -353,6 +353,12 @@ BLOCKED step 1 fact 3 rounds 4 held 4 kind negative round 0" "$out"
     try count "$tmp/m.model"
     same 'a model without a goal' "model '$tmp/m.model': 100 facts, 0 clauses, 0 rules, 0 attack states
 it has no attack state, so that no trace can be checked with it" "$out"
+    # The trace's version is told before the model's missing sections; a model that is refused has no figures.
+    bytes "01 00000002 0064 00" >"$tmp/m.model"
+    bytes "02 00000004 0000 0000" >"$tmp/t.trace"
+    try count "$tmp/m.model" "$tmp/t.trace"
+    same 'two files at fault' \
+        "VERSION: the trace '$tmp/t.trace', byte 0 (02), the version: a trace starts with 01" "$out"
     bytes "01 00000002 0064 00000000 00000000 00000000 00000006 0004 0000 0000" >"$tmp/m.model"
     try count "$tmp/m.model"
     has 'a long list is cut' '22, 23 and 76 more' "$out"

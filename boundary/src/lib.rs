@@ -7,6 +7,9 @@ pub const TABLE_ENTRIES: usize = 4_096;
 /// How many values a verdict has.
 pub const VALUES: usize = 10;
 
+/// How many figures are counted of a model.
+pub const FIGURES: usize = 4;
+
 /// No fact and no round in a verdict, no round in a table.
 pub const NONE: usize = 65_535;
 
@@ -56,6 +59,7 @@ extern "C" {
         out: *mut u64,
         out_len: usize,
     ) -> u8;
+    fn cantivorex_count(model: *const u8, model_len: usize, out: *mut u64, out_len: usize) -> u8;
     fn cantivorex_part(
         model: *const u8,
         model_len: usize,
@@ -169,6 +173,33 @@ pub fn close_into(model: &[u8], state: &[u8], table: &mut [u16], out: &mut [u64]
             out.len(),
         )
     }
+}
+
+/// What a model has: how many facts, clauses, rules and attack states.
+#[derive(Clone, Copy, Debug, PartialEq, Eq)]
+pub struct Counts {
+    pub facts: usize,
+    pub clauses: usize,
+    pub rules: usize,
+    pub goals: usize,
+}
+
+/// The counts of a model, or the refusal's number.
+pub fn count(model: &[u8]) -> Result<Counts, u8> {
+    let mut out = [0; FIGURES];
+    match count_into(model, &mut out) {
+        0 => {
+            let [facts, clauses, rules, goals] = out.map(|figure| figure as usize);
+            Ok(Counts { facts, clauses, rules, goals })
+        }
+        number => Err(number),
+    }
+}
+
+/// The same as the library has it: 0 and the four figures at the front of `out`, or the refusal's number; with fewer
+/// entries ROOM and no change.
+pub fn count_into(model: &[u8], out: &mut [u64]) -> u8 {
+    unsafe { cantivorex_count(model.as_ptr(), model.len(), out.as_mut_ptr(), out.len()) }
 }
 
 /// Copies the bytes at a place of the file marked to the front of `out` as far as it has room, and

@@ -1,12 +1,12 @@
-//! `count MODEL [TRACE]`: count the facts before you believe a trace. The library is asked about each prefix of
-//! the trace; every figure about a state is its answer, or the number of facts for which it gave one.
+//! `count MODEL [TRACE]`: count the facts before you believe a trace. The library is asked what the model has, and
+//! about each prefix of the trace; every figure is its answer, or the number of facts for which it gave one.
 
 use crate::args::{Args, Known};
 use crate::endings::ending;
 use crate::failure::{unanswered, Failure};
 use crate::files::Pair;
-use crate::judge::{self, is_refusal, Judged};
-use crate::layout::{self, Model};
+use crate::judge::{self, is_refusal, Counts, Judged};
+use crate::layout;
 use crate::names::Names;
 use crate::output::{counted, listed, quoted, Output};
 use crate::places::refusal;
@@ -45,15 +45,15 @@ fn run(args: &Args) -> Result<u8, Failure> {
     let judged = judge::check(&pair.model, &pair.trace);
     let names = Names::beside(&pair.model_name, &pair.model)?;
     let mut output = Output::open()?;
-    let is_model_fine = !is_refusal(&judged.verdict) || judged.verdict.mark == 1;
-    if is_model_fine {
-        let model = Model::read(&pair.model);
-        output.line(&sizes(&pair, &model))?;
-        let mut report = Report { pair: &pair, model, names: &names, most, output: &mut output };
+    let counts = judge::counts(&pair.model);
+    if let Some(counts) = counts {
+        output.line(&sizes(&pair, &counts))?;
+        let facts = counts.facts;
+        let mut report = Report { pair: &pair, facts, names: &names, most, output: &mut output };
         report.states(&judged, has_trace)?;
     }
     if is_refusal(&judged.verdict) {
-        output.line(&match is_model_fine && !has_trace {
+        output.line(&match counts.is_some() && !has_trace {
             true => "it has no attack state, so that no trace can be checked with it".to_string(),
             false => refusal(&judged.verdict, &pair),
         })?;
@@ -62,12 +62,12 @@ fn run(args: &Args) -> Result<u8, Failure> {
     Ok(0)
 }
 
-fn sizes(pair: &Pair, model: &Model) -> String {
+fn sizes(pair: &Pair, counts: &Counts) -> String {
     let [facts, clauses, rules, goals] = [
-        (model.facts, "fact"),
-        (model.clauses.len(), "clause"),
-        (model.rules.len(), "rule"),
-        (model.goals.len(), "attack state"),
+        (counts.facts, "fact"),
+        (counts.clauses, "clause"),
+        (counts.rules, "rule"),
+        (counts.goals, "attack state"),
     ]
     .map(|(count, word)| counted(count, word));
     format!("model {}: {facts}, {clauses}, {rules}, {goals}", quoted(&pair.model_name))
@@ -75,7 +75,7 @@ fn sizes(pair: &Pair, model: &Model) -> String {
 
 struct Report<'a> {
     pair: &'a Pair,
-    model: Model,
+    facts: usize,
     names: &'a Names,
     most: usize,
     output: &'a mut Output,
@@ -117,7 +117,7 @@ impl Report<'_> {
             ))
         })?;
         let (stored, others): (Vec<usize>, Vec<usize>) =
-            (0..self.model.facts).partition(|fact| judged.is_stored(*fact));
+            (0..self.facts).partition(|fact| judged.is_stored(*fact));
         let (reached, missing): (Vec<usize>, Vec<usize>) =
             others.into_iter().partition(|fact| judged.round(*fact).is_some());
         let held = judged.verdict.held;

@@ -1,6 +1,7 @@
-//! The one place where the library is asked: a check in buffers of its own, with what it leaves in them.
+//! The one place where the library is asked: a check in buffers of its own, with what it leaves in them, and what a
+//! model has.
 
-use crate::layout;
+pub use library::Counts;
 use library::{Verdict, NONE, STATE_BYTES, TABLE_ENTRIES};
 
 /// The refusal of a trace that has no fault in its bytes.
@@ -39,10 +40,9 @@ impl Judged {
     }
 }
 
-/// Whether a file has the sections and records of a model, by a trace that can't be at fault itself.
-pub fn is_model(file: &[u8]) -> bool {
-    let verdict = check(file, &layout::trace(0, &[])).verdict;
-    !is_refusal(&verdict) || verdict.mark == 1
+/// What a model has; none where it is refused.
+pub fn counts(model: &[u8]) -> Option<Counts> {
+    library::count(model).ok()
 }
 
 /// Whether a file has the section of a trace, by a model that can't be at fault itself.
@@ -68,6 +68,7 @@ pub fn name(verdict: &Verdict) -> &'static str {
 #[cfg(test)]
 mod tests {
     use super::*;
+    use crate::layout;
 
     /// What is shown of the states of a run fits its verdict: the rounds add up, and the last state is held.
     #[test]

@@ -190,10 +190,9 @@ pub fn records<'a>(section: &Piece<'a>) -> Vec<Piece<'a>> {
     out
 }
 
-/// A model as lists, as far as it can be followed: the whole of one that the library has judged to be well-formed.
+/// A model's lists, as far as it can be followed: all of one that the library has judged to be well-formed.
 #[derive(Default)]
 pub struct Model {
-    pub facts: usize,
     pub initial: Vec<usize>,
     pub clauses: Vec<Vec<List>>,
     pub rules: Vec<Vec<List>>,
@@ -207,16 +206,21 @@ impl Model {
             let cut =
                 || records(&section).iter().map_while(|r| lists(role, r.bytes).ok()).collect();
             match role {
-                Sizes => model.facts = numbers(role, &section).first().copied().unwrap_or(0),
                 Initial => model.initial = numbers(role, &section),
                 Clauses => model.clauses = cut(),
                 Rules => model.rules = cut(),
                 Goals => model.goals = cut(),
-                Trace => {}
+                Sizes | Trace => {}
             }
         }
         model
     }
+}
+
+/// F as the sizes have it, if only they can be followed.
+pub fn facts(file: &[u8]) -> usize {
+    let cut = sections(file, &MODEL[..1]);
+    cut.first().and_then(|(role, section)| numbers(*role, section).first().copied()).unwrap_or(0)
 }
 
 /// The numbers of a bare section.
@@ -263,7 +267,7 @@ mod tests {
             let clause = |c: &second::Clause| vec![vec![c.head as usize], wide(&c.body)];
             let rule = |r: &second::Rule| [&r.pos, &r.neg, &r.add].map(|list| wide(list)).to_vec();
             let goal = |a: &second::Attack| [&a.pos, &a.neg].map(|list| wide(list)).to_vec();
-            assert_eq!(ours.facts, theirs.facts as usize, "pair {index}");
+            assert_eq!(facts(&file), theirs.facts as usize, "pair {index}");
             assert_eq!(ours.initial, wide(&theirs.initial), "pair {index}");
             assert_eq!(numbers(&ours.clauses), Vec::from_iter(theirs.clauses.iter().map(clause)));
             assert_eq!(numbers(&ours.rules), Vec::from_iter(theirs.rules.iter().map(rule)));

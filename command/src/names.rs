@@ -4,8 +4,7 @@
 
 use crate::failure::Failure;
 use crate::files::read_plain;
-use crate::judge;
-use crate::layout::Model;
+use crate::judge::{self, Counts};
 use crate::output::{is_plain, quoted, tell};
 use std::collections::HashMap;
 use std::ffi::OsStr;
@@ -26,11 +25,11 @@ impl Names {
         let file = path.with_extension("names");
         let is_there =
             path.extension() == Some("model".as_ref()) && file.symlink_metadata().is_ok();
-        if !is_there || !judge::is_model(model) {
+        let Some(counts) = judge::counts(model).filter(|_| is_there) else {
             return Ok(Names::default());
-        }
+        };
         let bytes = read_plain(file.as_os_str(), BYTES).map_err(|failure| failure.message);
-        bytes.and_then(|bytes| parse(&bytes, &Model::read(model))).or_else(|reason| {
+        bytes.and_then(|bytes| parse(&bytes, &counts)).or_else(|reason| {
             let shown = quoted(file.as_os_str());
             tell(&format!("the names in {shown} are not used: {reason}"))?;
             Ok(Names::default())
@@ -62,7 +61,7 @@ impl Names {
     }
 }
 
-fn parse(bytes: &[u8], model: &Model) -> Result<Names, String> {
+fn parse(bytes: &[u8], counts: &Counts) -> Result<Names, String> {
     if bytes.len() > BYTES {
         return Err(format!("the file has over {BYTES} bytes"));
     }
@@ -71,15 +70,15 @@ fn parse(bytes: &[u8], model: &Model) -> Result<Names, String> {
     let mut names = Names::default();
     for (index, line) in text.lines().enumerate() {
         if !line.is_empty() && !line.starts_with('#') {
-            add(&mut names, line, model)
+            add(&mut names, line, counts)
                 .map_err(|reason| format!("line {}: {reason}", index + 1))?;
         }
     }
     Ok(names)
 }
 
-fn add(names: &mut Names, line: &str, model: &Model) -> Result<(), String> {
-    let most = [model.facts, model.rules.len(), model.goals.len()];
+fn add(names: &mut Names, line: &str, counts: &Counts) -> Result<(), String> {
+    let most = [counts.facts, counts.rules, counts.goals];
     let (kind, number, name) =
         split(line).ok_or("expected fact, rule or goal, a number and a name")?;
     let word = KINDS[kind];

@@ -3,7 +3,7 @@
 
 use crate::files::{Pair, MODEL_BYTES, TRACE_BYTES};
 use crate::judge;
-use crate::layout::{self, lists, records, sections, Kind, List, Model, Piece, Role};
+use crate::layout::{self, lists, records, sections, Kind, List, Piece, Role};
 use crate::output::{counted, quoted};
 use library::Verdict;
 use std::ffi::OsStr;
@@ -16,7 +16,7 @@ const UNPLACED: &str = "which this command can't place: tell its authors";
 
 /// The refusal of a pair.
 pub fn refusal(verdict: &Verdict, pair: &Pair) -> String {
-    let place = Place { verdict, pair, model: Model::read(&pair.model) };
+    let place = Place { verdict, pair };
     let found = place.words().unwrap_or_else(|| UNPLACED.to_string());
     let (word, name, file) = place.file();
     let span = span(file, verdict.start, verdict.size);
@@ -28,7 +28,7 @@ pub fn refusal(verdict: &Verdict, pair: &Pair) -> String {
 fn mistaken(pair: &Pair) -> &'static str {
     if judge::is_trace(&pair.model) && !judge::is_trace(&pair.trace) {
         " (it was given a trace for the model: are the two files swapped?)"
-    } else if judge::is_model(&pair.trace) {
+    } else if judge::counts(&pair.trace).is_some() {
         " (it was given a model for the trace)"
     } else {
         ""
@@ -53,7 +53,6 @@ fn span(file: &[u8], start: usize, size: usize) -> String {
 struct Place<'a> {
     verdict: &'a Verdict,
     pair: &'a Pair,
-    model: Model,
 }
 
 impl Place<'_> {
@@ -84,9 +83,10 @@ impl Place<'_> {
     fn lacking(&self) -> Option<String> {
         let index = self.verdict.start.checked_sub(5)? / 2;
         let number = *layout::trace_names(&self.pair.trace).get(index)?;
+        let counts = judge::counts(&self.pair.model)?;
         let (place, word, count) = match index {
-            0 => ("the goal".to_string(), "goal", self.model.goals.len()),
-            _ => (format!("step {}", index - 1), "rule", self.model.rules.len()),
+            0 => ("the goal".to_string(), "goal", counts.goals),
+            _ => (format!("step {}", index - 1), "rule", counts.rules),
         };
         Some(format!(
             "{place}: it names {word} {number}, and the model has {}",
@@ -152,8 +152,10 @@ impl Place<'_> {
         match self.verdict.number {
             5 => cut.iter().find_map(|list| too_many(role, list)),
             6 => cut.iter().find_map(|list| {
-                let fact = list.numbers.iter().find(|fact| **fact >= self.model.facts)?;
-                let known = numbered("fact", self.model.facts);
+                // The library counts no model that it refuses.
+                let facts = layout::facts(&self.pair.model);
+                let fact = list.numbers.iter().find(|fact| **fact >= facts)?;
+                let known = numbered("fact", facts);
                 Some(format!("fact {fact} stands in its {}, and the model has {known}", list.word))
             }),
             7 => cut.iter().find_map(|list| {

@@ -3,7 +3,7 @@
 use crate::args::Args;
 use crate::failure::{unanswered, Failure};
 use crate::files::Pair;
-use crate::judge;
+use crate::judge::{self, Counts};
 use crate::layout::{List, Model};
 use crate::names::Names;
 use crate::output::{listed, Output};
@@ -29,26 +29,26 @@ Example:
 fn run(args: &Args) -> Result<u8, Failure> {
     let [name] = operands(args, &COMMAND)?;
     let pair = Pair::of_model(name)?;
-    let verdict = judge::check(&pair.model, &pair.trace).verdict;
-    if judge::is_refusal(&verdict) && verdict.mark == 0 {
+    let Some(counts) = judge::counts(&pair.model) else {
+        let verdict = judge::check(&pair.model, &pair.trace).verdict;
         return Err(unanswered(refusal(&verdict, &pair)));
-    }
+    };
     let names = Names::beside(name, &pair.model)?;
     let model = Model::read(&pair.model);
     let mut output = Output::open()?;
-    text(&model, &names).iter().try_for_each(|line| output.line(line))?;
+    text(&model, &counts, &names).iter().try_for_each(|line| output.line(line))?;
     output.flush()?;
     Ok(0)
 }
 
-fn text(model: &Model, names: &Names) -> Vec<String> {
+fn text(model: &Model, counts: &Counts, names: &Names) -> Vec<String> {
     let all = |facts: &[usize]| listed(facts.iter().map(|fact| names.fact(*fact)), usize::MAX);
-    let mut out = vec![format!("facts: {}", model.facts)];
+    let mut out = vec![format!("facts: {}", counts.facts)];
     if names.has_facts() {
-        out.extend((0..model.facts).map(|fact| format!("  {}", names.fact(fact))));
+        out.extend((0..counts.facts).map(|fact| format!("  {}", names.fact(fact))));
     }
     out.push(format!("initial facts: {}", all(&model.initial)));
-    out.push(format!("clauses: {}", model.clauses.len()));
+    out.push(format!("clauses: {}", counts.clauses));
     for (number, clause) in model.clauses.iter().enumerate() {
         let [head, body] = [0, 1].map(|i| all(&clause[i].numbers));
         out.push(format!(
@@ -56,11 +56,11 @@ fn text(model: &Model, names: &Names) -> Vec<String> {
             if clause[1].numbers.is_empty() { "nothing" } else { &body }
         ));
     }
-    out.push(format!("rules: {}", model.rules.len()));
+    out.push(format!("rules: {}", counts.rules));
     for (number, rule) in model.rules.iter().enumerate() {
         out.push(format!("  rule {}: {}", names.rule(number), conditions(rule, all)));
     }
-    out.push(format!("attack states: {}", model.goals.len()));
+    out.push(format!("attack states: {}", counts.goals));
     for (number, goal) in model.goals.iter().enumerate() {
         out.push(format!("  goal {}: {}", names.goal(number), conditions(goal, all)));
     }

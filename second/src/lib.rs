@@ -3,12 +3,14 @@
 
 mod bounds;
 pub mod close;
+mod count;
 pub mod gen;
 pub mod read;
 mod tally;
 
 pub use close::{bench_close, bench_close_flat, close, close_api};
 pub use close::{clause_place, flat, Flat, Judged};
+pub use count::{count_api, Counts};
 pub use read::{parse, parse_model, Attack, Clause, Model, Parsed, Part, Rule, Trace};
 pub use tally::Tally;
 

@@ -1,4 +1,4 @@
-//! Cases A to L, the buffers, the edges, closing by itself, and the generator.
+//! Cases A to L, the buffers, the edges, closing and counting by themselves, and the generator.
 
 mod common;
 use common::*;
@@ -241,6 +241,33 @@ fn closing_by_itself() {
         let mut model = desk.clone();
         model[at] = byte;
         assert_eq!(refuse(&model, &state, 4_096), number);
+    }
+}
+
+#[test]
+fn counting_by_itself() {
+    let has = |model: &[u8], [facts, clauses, rules, attacks]: [usize; 4]| {
+        assert_eq!(count_api(model), Ok(Counts { facts, clauses, rules, attacks }));
+    };
+    let desk = hex(DESK);
+    has(&desk, [6, 2, 3, 2]);
+    has(&write_model(&Model::default()), [0; 4]);
+    // As many of each as there may be; initial facts are counted nowhere.
+    let mut most = Model { initial: up_to(4_096), ..bare(4_096) };
+    has(&write_model(&most), [4_096, 0, 0, 1]);
+    most.initial.clear();
+    most.clauses = vec![clause(0, &[]); 4_096];
+    most.rules = vec![rule(&[], &[], &[]); 2_048];
+    most.attacks = vec![attack(&[], &[]); 64];
+    has(&write_model(&most), [4_096, 4_096, 2_048, 64]);
+    // The refusals are those of closing by itself, without a state.
+    for (model, number) in [(&[0; 65_537][..], LONG), (&[], VERSION), (&desk[..100], SHAPE)] {
+        assert_eq!(count_api(model), Err(number));
+    }
+    for (at, byte, number) in [(5, 0x10, COUNT), (14, 6, FACT), (26, 1, ORDER)] {
+        let mut model = desk.clone();
+        model[at] = byte;
+        assert_eq!(count_api(&model), Err(number));
     }
 }
 

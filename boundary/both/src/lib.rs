@@ -4,8 +4,8 @@
 pub mod plain;
 pub mod watch;
 
-use cantivorex::VALUES;
-use second::Verdict;
+use cantivorex::{FIGURES, VALUES};
+use second::{Counts, Verdict};
 use std::fmt::Debug;
 
 /// Entries on both sides of a lent area; a write outside the area shows there.
@@ -105,6 +105,24 @@ pub fn close(model: &[u8], state: &[u8], table: &mut [u16]) -> Result<Result<usi
     same_area("closing's rounds", &out, &out_2)?;
     same_area("closing's table", &our_table, &table_2)?;
     table.copy_from_slice(inside(&mut our_table));
+    Ok(answer)
+}
+
+/// What a model has, counted by both, or what differs; first into a few entries that are too few.
+pub fn count(model: &[u8], few: usize) -> Result<Result<Counts, u8>, String> {
+    let mut short = vec![7; few];
+    same("a short out to count", cantivorex::count_into(model, &mut short), 1)?;
+    same("a short out's figures", short, vec![7; few])?;
+    let mut out = guarded(&[7; FIGURES + 1], 9);
+    let mut out_2 = out.clone();
+    let number = cantivorex::count_into(model, inside(&mut out));
+    let answer = second::count_api(model);
+    if let Ok(Counts { facts, clauses, rules, attacks }) = answer {
+        let figures = [facts, clauses, rules, attacks].map(|n| n as u64);
+        inside(&mut out_2)[..FIGURES].copy_from_slice(&figures);
+    }
+    same("the count's number", number, answer.err().unwrap_or(0))?;
+    same_area("the model's figures", &out, &out_2)?;
     Ok(answer)
 }
 

@@ -1,5 +1,7 @@
-//! The second program's own tests, run through both programs: cases A to L, the edges, every fault and every two faults together.
-//! Those tests say `second`; here that is this file, whose `check` and `close_api` make each call of both and compare.
+//! The second program's own tests, run through both programs: cases A to L, the edges, every fault and every two faults
+//! together.
+//! Those tests say `second`; here that is this file, whose `check`, `close_api` and `count_api` make each call of both
+//! and compare.
 
 extern crate second as other;
 extern crate self as second;
@@ -17,4 +19,8 @@ pub fn check(model: &[u8], trace: &[u8], state: &mut [u8], table: &mut [u16]) ->
 
 pub fn close_api(model: &[u8], state: &[u8], table: &mut [u16]) -> Result<usize, u8> {
     both::close(model, state, table).unwrap_or_else(|difference| panic!("{difference}"))
+}
+
+pub fn count_api(model: &[u8]) -> Result<Counts, u8> {
+    both::count(model, 3).unwrap_or_else(|difference| panic!("{difference}"))
 }

@@ -1,7 +1,8 @@
-//! The edges of document 01: a pair on each side of every bound and one for each fault, through the proved library.
-//! What must come out was worked out by hand: EDGES.md has the reasoning, edges.txt the lines.
+//! The edges of document 01: a pair on each side of every bound and one for each fault, through the proved library; and
+//! what models have. What must come out was worked out by hand: EDGES.md has the reasoning, edges.txt and figures.txt
+//! the lines.
 
-use cantivorex::{STATE_BYTES, TABLE_ENTRIES};
+use cantivorex::{Counts, STATE_BYTES, TABLE_ENTRIES};
 use second::gen::{write_model, write_trace};
 use second::{Attack, Clause, Model, Rule};
 
@@ -256,6 +257,38 @@ fn the_first_of_two() -> Vec<Case> {
     ]
 }
 
+/// Models whose figures tell what is counted: records and not bytes, F and not the initial facts.
+fn what_is_counted() -> Vec<Case> {
+    let two_clauses = listed(|l| l.model.clauses.push(Clause { head: 0, body: facts(0, 16) }));
+    let full_rule = Rule { pos: facts(0, 32), neg: facts(1, 32), add: facts(0, 32) };
+    let full_goal = Attack { pos: facts(0, 32), neg: facts(1, 32) };
+    let all_different = listed(|l| {
+        l.model.facts = 300;
+        repeat(&mut l.model.clauses, 5);
+        repeat(&mut l.model.rules, 4);
+        repeat(&mut l.model.attacks, 3);
+    });
+    vec![
+        ("nothing at all", listed(|l| l.model = Model::default())),
+        ("300 facts, 5 clauses, 4 rules, 3 attack states", all_different),
+        ("a second clause, of 16", two_clauses),
+        ("a second rule, of 96", listed(|l| l.model.rules.push(full_rule))),
+        ("a second attack state, of 64", listed(|l| l.model.attacks.push(full_goal))),
+        ("no clause", listed(|l| l.model.clauses.clear())),
+        ("no rule", listed(|l| l.model.rules.clear())),
+        ("no attack state", listed(|l| l.model.attacks.clear())),
+        ("40 initial facts", listed(|l| l.model.initial = facts(0, 40))),
+        ("initial fact F", listed(|l| l.model.initial = facts(0, 41))),
+    ]
+}
+
+/// In the order of EDGES.md, its last section.
+fn models() -> Vec<Case> {
+    let groups =
+        [what_is_counted, records_steps_and_f, sizes_of_files, other_faults, the_first_of_two];
+    groups.iter().flat_map(|group| group()).collect()
+}
+
 /// In the order of EDGES.md.
 fn cases() -> Vec<Case> {
     let groups = [
@@ -283,6 +316,25 @@ fn line((label, files): &Case) -> String {
     }
 }
 
+fn figures((label, files): &Case) -> String {
+    match cantivorex::count(&files.model) {
+        Ok(Counts { facts, clauses, rules, goals }) => {
+            format!("{label}: {facts} {clauses} {rules} {goals}")
+        }
+        Err(number) => format!("{label}: number {number}"),
+    }
+}
+
+/// The lines of some cases against those worked out by hand.
+fn agree(cases: &[Case], line: fn(&Case) -> String, by_hand: &str) {
+    let expected: Vec<&str> = by_hand.lines().collect();
+    assert_eq!(cases.len(), expected.len(), "the number of lines");
+    let pairs = cases.iter().map(line).zip(expected).filter(|(got, wanted)| got != wanted);
+    let differences: Vec<String> =
+        pairs.map(|(got, wanted)| format!("{got}; by hand {wanted}")).collect();
+    assert!(differences.is_empty(), "{}", differences.join("\n"));
+}
+
 /// The places in EDGES.md count on these bytes.
 #[test]
 fn the_plain_pair_is_the_one_of_the_page() {
@@ -301,12 +353,10 @@ fn the_plain_pair_is_the_one_of_the_page() {
 
 #[test]
 fn every_edge_gives_what_was_worked_out_by_hand() {
-    let expected: Vec<&str> = include_str!("edges.txt").lines().collect();
-    let cases = cases();
-    assert_eq!(cases.len(), expected.len(), "the number of lines");
-    let lines = cases.iter().map(line);
-    let pairs = lines.zip(expected).filter(|(got, wanted)| got != wanted);
-    let differences: Vec<String> =
-        pairs.map(|(got, wanted)| format!("{got}; by hand {wanted}")).collect();
-    assert!(differences.is_empty(), "{}", differences.join("\n"));
+    agree(&cases(), line, include_str!("edges.txt"));
+}
+
+#[test]
+fn every_model_has_what_was_worked_out_by_hand() {
+    agree(&models(), figures, include_str!("figures.txt"));
 }

@@ -7,11 +7,18 @@ use native.Mathlib.Omega.{arith}
 use borrow.Author.Tests.{lt-ltb, le-ltb}
 use lib.ListN.{length, set}
 use Rattle.records.specs.Answers.{code}
+use Rattle.records.specs.declared.Fault.{Fault}
+use Rattle.files.specs.Files.{factCount, modelOf, modelFault}
+use Rattle.files.specs.Answers.{countsOf, judged}
+use Rattle.files.specs.declared.Counts.{Counts}
+use Rattle.files.specs.declared.Judged.{Judged}
+use Rattle.files.proofs.Answers.{judged-fine, judged-fault}
 use Rattle.closing.specs.Closing as closing
 use Rattle.closing.specs.declared.Closed.{Closed}
 use Rattle.checking.specs.Verdict.{Lent, Checked}
 use Rattle.checking.specs.declared.Verdict.{Verdict}
-use Rattle.exports.specs.Exports.{shorter, over, values, ChecksOut, roundsOut, ClosesOut}
+use Rattle.exports.specs.Exports.{shorter, over, values, ChecksOut, unlessRefused, ClosesOut}
+use Rattle.exports.specs.Exports.{modelRefusal, figures, CountsOut}
 use Rattle.exports.proofs.Fronts.{stored}
 
 -- ---- the verdict
@@ -59,7 +66,7 @@ module _ (m state table : List ℕ) where
       (closed : closing.Closes m state table table' r) where
     -- the rounds are written
     pub some-rounds : r ≡ Closed.Rounds n → ClosesOut (shorter out 1) m state table table' out (set out 0 n) 0
-    unfolding shorter ClosesOut code roundsOut
+    unfolding shorter ClosesOut code unlessRefused
     some-rounds told =
         let (fine, same) = rounds-fine _ _ _ (sym told ∙ closed .answers) in
         rw (le-ltb _ _ room)
@@ -71,7 +78,7 @@ module _ (m state table : List ℕ) where
 
     -- a refusal writes nothing
     pub refused : r ≡ Closed.Refused n → ClosesOut (shorter out 1) m state table table' out out n
-    unfolding shorter ClosesOut code roundsOut
+    unfolding shorter ClosesOut code unlessRefused
     refused told =
         let number = refused-some _ _ _ (sym told ∙ closed .answers) in
         rw (le-ltb _ _ room)
@@ -80,3 +87,27 @@ module _ (m state table : List ℕ) where
           rounds = rw number;
           entries = closed .table;
         })
+
+-- ---- a model's figures
+
+module _ (m out : List ℕ) where
+  -- without room for them
+  pub no-figures : length out < 4 → CountsOut (shorter out 4) m out out 1
+  unfolding shorter CountsOut
+  no-figures short = rw (lt-ltb _ _ short) (refl, refl)
+
+  module _ (r : Judged) (room : 4 ≤ length out) (is : r ≡ judged (modelFault m) (countsOf m)) where
+    -- they are written
+    pub some-figures : (n : Counts) (F : ℕ) (out' : List ℕ) → r ≡ Judged.Fine n → F ≡ factCount m
+        → out' ≡ over (F ∷ n .clauses ∷ n .rules ∷ n .goals ∷ []) out → CountsOut (shorter out 4) m out out' 0
+    unfolding shorter CountsOut code modelRefusal unlessRefused figures countsOf modelOf
+    some-figures n F out' told facts written =
+        let (fine, same) = judged-fine _ _ _ is told in
+        rw (le-ltb _ _ room) (record { number = rw fine; figures = rw fine (rw (facts, ← same) at written) })
+
+    -- a refusal writes nothing
+    pub no-model : (f : Fault) → r ≡ Judged.Fault f → CountsOut (shorter out 4) m out out (f .number)
+    unfolding shorter CountsOut code modelRefusal unlessRefused
+    no-model f told =
+        let number = judged-fault _ _ _ is told in
+        rw (le-ltb _ _ room) (record { number = rw number; figures = rw number })

@@ -10,7 +10,7 @@ use Rattle.closing.specs.Closing.{closeRefusal}
 use Rattle.closing.proofs.Alone.{table-unique}
 use Rattle.checking.specs.Verdict.{Lent, refusal}
 use Rattle.checking.proofs.Theorems.{buffers-unique}
-use Rattle.exports.specs.Exports.{ChecksOut, ClosesOut, PartOut}
+use Rattle.exports.specs.Exports.{ChecksOut, ClosesOut, CountsOut, PartOut}
 
 -- checking: the number, the values and both buffers
 module _ (m t : List ℕ) (before : Lent) {a b : Lent} (bytes-a : Bytes (a .state)) (bytes-b : Bytes (b .state)) where
@@ -36,6 +36,14 @@ module _ (m state table t₁ t₂ out o₁ o₂ : List ℕ) (r₁ r₂ : ℕ) wh
         (y .entries),
     x .rounds ∙ sym (y .rounds),
   )
+
+-- counting: the answer and the counts
+module _ (m out o₁ o₂ : List ℕ) (r₁ r₂ : ℕ) where
+  pub counts-unique : (short : Bool) → CountsOut short m out o₁ r₁ → CountsOut short m out o₂ r₂
+      → (r₁ ≡ r₂) × (o₁ ≡ o₂)
+  unfolding CountsOut
+  counts-unique true x y = (x .0 ∙ sym (y .0), x .1 ∙ sym (y .1))
+  counts-unique false x y = (x .number ∙ sym (y .number), x .figures ∙ sym (y .figures))
 
 -- a part: its length and its bytes
 pub parts-unique : {part out o₁ o₂ : List ℕ} {r₁ r₂ : ℕ} → PartOut part out o₁ r₁ → PartOut part out o₂ r₂

@@ -1,16 +1,17 @@
 -- What the exported functions answer and leave, by the definitions of the crates below this one: the verdict, closing,
--- and the part of a file.
+-- a model's figures, and the part of a file.
 use Prim.Native.Nat.{ℕ}
 use mathlib.Core.Path.{_≡_}
 use mathlib.Core.Bool.{Bool, true, false}
 use mathlib.Core.List.{List, [], _∷_, _++_}
-use mathlib.Core.Option.{Option, none, some}
+use mathlib.Core.Option.{Option, none, some, Option·map}
 use lib.Dec.{ltb}
 use lib.ListN.{length, take, drop}
+use Rattle.meaning.specs.Model.{Model}
 use Rattle.meaning.specs.Rounds as meant
 use Rattle.facts.specs.Facts.{members}
 use Rattle.records.specs.Answers.{code}
-use Rattle.files.specs.Files.{modelOf}
+use Rattle.files.specs.Files.{modelOf, modelFault}
 use Rattle.closing.specs.Closing.{closeRefusal, Table}
 use Rattle.checking.specs.Verdict.{Lent, refusal, Buffers}
 use Rattle.checking.specs.Promises.{verdict}
@@ -41,21 +42,43 @@ unfoldable pub ChecksOut : Bool → List ℕ → List ℕ → Lent → Lent → 
 ChecksOut true m t before after out out' r = (r ≡ 1) × (after ≡ before) × (out' ≡ out)
 ChecksOut false m t before after out out' r = VerdictOut m t before after out out' r
 
--- the number of rounds in the first entry; a refusal writes nothing
-unfoldable pub roundsOut : Option ℕ → ℕ → List ℕ → List ℕ
-roundsOut none n out = over (n ∷ []) out
-roundsOut (some k) n out = out
+-- values at the front; a refusal writes nothing
+unfoldable pub unlessRefused : Option ℕ → List ℕ → List ℕ → List ℕ
+unfolding over
+unlessRefused none values out = over values out
+unlessRefused (some k) values out = out
 
 -- the answer with room for the rounds, and every entry of the table
 pub record RoundsOut (m state table table' out out' : List ℕ) (r : ℕ) : Type 0 where
   pub number : r ≡ code (closeRefusal m state table)
-  pub rounds : out' ≡ roundsOut (closeRefusal m state table) (meant.rounds (modelOf m .clauses) (members state)) out
+  pub rounds : out'
+      ≡ unlessRefused (closeRefusal m state table) (meant.rounds (modelOf m .clauses) (members state) ∷ []) out
   pub entries : Table (closeRefusal m state table) (modelOf m .clauses) (members state) table table'
 
 -- what `cantivorex_close` promises: without room for the rounds, 1 and no change
 unfoldable pub ClosesOut : Bool → List ℕ → List ℕ → List ℕ → List ℕ → List ℕ → List ℕ → ℕ → Type 0
 ClosesOut true m state table table' out out' r = (r ≡ 1) × (table' ≡ table) × (out' ≡ out)
 ClosesOut false m state table table' out out' r = RoundsOut m state table table' out out' r
+
+-- "4 to 7 for the model", after its 2 and 3: "A refusal, here and in every later tool, is its number alone."
+unfoldable pub modelRefusal : List ℕ → Option ℕ
+unfolding modelFault
+modelRefusal m = Option·map (λ f. f .number) (modelFault m)
+
+-- "1. sizes: exactly 2 bytes, F; .. 3. clauses; 4. rules; 5. attack states: records.": F, and how many records each of
+-- these sections has
+unfoldable pub figures : Model → List ℕ
+figures M = M .F ∷ length (M .clauses) ∷ length (M .rules) ∷ length (M .goals) ∷ []
+
+-- the answer with room for a model's figures
+pub record FiguresOut (m out out' : List ℕ) (r : ℕ) : Type 0 where
+  pub number : r ≡ code (modelRefusal m)
+  pub figures : out' ≡ unlessRefused (modelRefusal m) (figures (modelOf m)) out
+
+-- what `cantivorex_count` promises: without room for the figures, 1 and no change
+unfoldable pub CountsOut : Bool → List ℕ → List ℕ → List ℕ → ℕ → Type 0
+CountsOut true m out out' r = (r ≡ 1) × (out' ≡ out)
+CountsOut false m out out' r = FiguresOut m out out' r
 
 -- what `cantivorex_part` promises: the part's length, and its bytes
 pub record PartOut (part out out' : List ℕ) (r : ℕ) : Type 0 where

@@ -1,14 +1,20 @@
-// The library for C and Rust: three functions on numbers and slices. None has a requires; that the areas lent are there
+// The library for C and Rust: four functions on numbers and slices. None has a requires; that the areas lent are there
 // is the caller's to see to. include/cantivorex.h declares them for C.
 ghost use Prim.Native.Nat.{_≤_};
 ghost use mathlib.Core.Path.{_≡_};
+ghost use mathlib.Core.List.{[], _∷_};
 ghost use lib.ListN.{length};
-ghost use Rattle.exports.specs.Exports.{ChecksOut, ClosesOut, PartOut, shorter, values, over};
+ghost use Rattle.exports.specs.Exports.{ChecksOut, ClosesOut, CountsOut, PartOut};
+ghost use Rattle.exports.specs.Exports.{shorter, values, over};
 ghost use Rattle.files.specs.Answers.{partOf};
 use checking::Verdict;
 use closing::Closed;
+use files::Counts;
+use files::Judged;
 use files::Part;
 use files::both;
+use files::held;
+use files::model;
 
 // Writes a verdict's ten values to the front.
 fn put(v: Verdict, out: &mut [u64])
@@ -71,6 +77,37 @@ pub extern "C" fn cantivorex_close(
             0
         }
         Closed::Refused(number) => number,
+    }
+}
+
+// Writes F and a model's counts to the front.
+fn put_figures(facts: usize, n: Counts, out: &mut [u64])
+    requires { ⌜ 4 ≤ length (now out) ⌝ }
+    ensures { λ _. ⌜ now (out .exit)
+        ≡ over (facts ∷ n .clauses ∷ n .rules ∷ n .goals ∷ []) (now (out .entry)) ⌝ }
+{
+    out[0] = facts as u64;
+    out[1] = n.clauses as u64;
+    out[2] = n.rules as u64;
+    out[3] = n.goals as u64;
+}
+
+// What a model has: 0, with its facts, clauses, rules and attack states in the first four entries of `out`, or a
+// refusal's number, with nothing changed. Without room for them the answer is 1.
+#[no_mangle]
+pub extern "C" fn cantivorex_count(model: &[u8], out: &mut [u64]) -> u8
+    ensures { λ r. ⌜ CountsOut (shorter (now (out .entry)) 4) (now (model .entry)) (now (out .entry))
+        (now (out .exit)) r ⌝ }
+{
+    if out.len() < 4 {
+        return 1;
+    }
+    match model::judge_model(model) {
+        Judged::Fine(counts) => {
+            put_figures(held::facts(model), counts, out);
+            0
+        }
+        Judged::Fault(fault) => fault.number,
     }
 }
 

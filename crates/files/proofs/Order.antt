@@ -24,7 +24,7 @@ use Rattle.sections.specs.declared.Role.the-variants.{Sizes, Goals}
 use Rattle.sections.proofs.Fits.{neither, not-given, section-fine}
 use Rattle.sections.proofs.Parts.{fit-end, ended-size}
 use Rattle.sections.proofs.Answers.{passed-to, passed-fault, or-first, or-next}
-use Rattle.files.specs.Files.{roles, tag, indexOf, placeOfRole, sectionOf, factCount, modelOf}
+use Rattle.files.specs.Files.{roles, tag, indexOf, placeOfRole, sectionOf, factCount, clausesIn, modelOf}
 use Rattle.files.specs.Files.{faultFrom, shapeFault}
 use Rattle.files.specs.Answers.{countsOf, noted, notedFrom}
 use Rattle.files.specs.declared.Counts.{Counts}
@@ -45,13 +45,13 @@ module _ (file : List ℕ) (F : ℕ) where
   by-facts none rest told = ap rest (sym (told refl))
   by-facts (some f) rest told = refl
 
-  start-counts : countsOf file ≡ notedFrom roles file 1 (record { rules = 0; goals = 0 })
-  unfolding roles sectionAt countsOf notedFrom noted entries modelOf sectionOf placeOfRole indexOf tag
-  start-counts = rw (length-map, length-map)
+  start-counts : countsOf file ≡ notedFrom roles file 1 (record { clauses = 0; rules = 0; goals = 0 })
+  unfolding roles sectionAt countsOf notedFrom noted entries modelOf clausesIn sectionOf placeOfRole indexOf tag
+  start-counts = rw (length-map, length-map, length-map)
 
   -- It starts with the sizes.
   pub onward-start : (inSection (reader Sizes F) file 1 ≡ none → F ≡ factCount file)
-      → Onward file F 0 1 (record { rules = 0; goals = 0 })
+      → Onward file F 0 1 (record { clauses = 0; rules = 0; goals = 0 })
   unfolding shapeFault faultFrom roles sectionAt reader inSection
   onward-start told = record {
     fault = by-facts (inSection (reader Sizes F) file 1) (λ k. faultFrom (drop 1 roles) k file (endAt file 1)) told;

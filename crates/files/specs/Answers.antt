@@ -18,10 +18,14 @@ use Rattle.files.specs.declared.Part.{Part}
 
 -- ---- what was judged
 
--- how many rules and attack states a trace can name
+-- "3. clauses; 4. rules; 5. attack states: records": how many of each a model has
 unfoldable pub countsOf : List ℕ → Counts
 unfolding modelOf
-countsOf file = record { rules = length (modelOf file .rules); goals = length (modelOf file .goals) }
+countsOf file = record {
+  clauses = length (modelOf file .clauses);
+  rules = length (modelOf file .rules);
+  goals = length (modelOf file .goals);
+}
 
 -- the answer for a model: its fault, or those counts
 unfoldable pub judged : Option Fault → Counts → Judged
@@ -82,9 +86,9 @@ goalPart m g = record {
 unfoldable pub noted : Counts → Role → ℕ → Counts
 noted n Sizes k = n
 noted n Initial k = n
-noted n Clauses k = n
-noted n Rules k = record { rules = k; goals = n .goals }
-noted n Goals k = record { rules = n .rules; goals = k }
+noted n Clauses k = record { clauses = k; rules = n .rules; goals = n .goals }
+noted n Rules k = record { clauses = n .clauses; rules = k; goals = n .goals }
+noted n Goals k = record { clauses = n .clauses; rules = n .rules; goals = k }
 
 -- the counts with those of sections of these roles from a place on
 unfoldable pub notedFrom : List Role → List ℕ → ℕ → Counts → Counts

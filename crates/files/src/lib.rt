@@ -8,8 +8,9 @@ pub mod trace;
 
 use records::Fault;
 
-// How many rules and attack states a judged model has.
+// How many clauses, rules and attack states a judged model has. With F in it too closing would need more stack.
 pub struct Counts {
+    pub clauses: usize,
     pub rules: usize,
     pub goals: usize,
 }

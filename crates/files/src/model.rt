@@ -42,22 +42,17 @@ pub fn index_of(role: Role) -> usize
 }
 
 // The counts with those of one section more.
-fn note(counts: Counts, role: Role, count: usize) -> Counts
+fn note(mut counts: Counts, role: Role, count: usize) -> Counts
     ensures { λ r. ⌜ r ≡ noted counts role count ⌝ }
 {
     match role {
-        Role::Rules => Counts {
-            rules: count,
-            goals: counts.goals,
-        },
-        Role::Goals => Counts {
-            rules: counts.rules,
-            goals: count,
-        },
-        Role::Sizes => counts,
-        Role::Initial => counts,
-        Role::Clauses => counts,
+        Role::Clauses => counts.clauses = count,
+        Role::Rules => counts.rules = count,
+        Role::Goals => counts.goals = count,
+        Role::Sizes => {}
+        Role::Initial => {}
     }
+    counts
 }
 
 // F as the sizes have it, where they are fine. Judging them asks for no F.
@@ -77,7 +72,11 @@ pub fn judge_shape(model: &[u8]) -> Judged
     ensures { λ r. ⌜ r ≡ judged (shapeFault (now (model .entry))) (countsOf (now (model .entry))) ⌝ }
 {
     let facts = facts_told(model);
-    let mut counts = Counts { rules: 0, goals: 0 };
+    let mut counts = Counts {
+        clauses: 0,
+        rules: 0,
+        goals: 0,
+    };
     let mut at = 1;
     let mut i = 0;
     while i < SECTIONS {

@@ -74,7 +74,8 @@ fn failed(pair: &Pair, index: u64) -> i32 {
     1
 }
 
-/// One pair: a check with and without room for the verdict, closing by itself, and three places.
+/// One pair: a check with and without room for the verdict, closing by itself, three places, and
+/// what the model has.
 fn compare(pair: &Pair, seed: u64, index: u64) -> Result<Verdict, String> {
     let Pair { model, trace, state_len, .. } = pair;
     let mut rng = Rng::new(seed ^ 0xC0FFEE, index);
@@ -92,6 +93,7 @@ fn compare(pair: &Pair, seed: u64, index: u64) -> Result<Verdict, String> {
         let room = rng.below(2 + file.len());
         both::part(model, trace, mark, start, size, room)?;
     }
+    let _ = both::count(model, rng.below(cantivorex::FIGURES))?;
     Ok(verdict)
 }
 
@@ -106,13 +108,15 @@ fn somewhere(rng: &mut Rng, len: usize) -> usize {
     [rng.below(len + 1), rng.below(len + 1), near, usize::MAX - rng.below(2)][rng.below(4)]
 }
 
-/// Both verdicts, for a look at a pair that differs.
+/// Both verdicts and counts, for a look at a pair that differs.
 fn answers(pair: &Pair, seed: u64, index: u64) {
     let Pair { model, trace, .. } = pair;
     let (mut state, mut table) = pair.buffers(seed, index);
     println!("library {:?}", cantivorex::check(model, trace, &mut state, &mut table));
     let (mut state, mut table) = pair.buffers(seed, index);
     println!("second  {:?}", second::check(model, trace, &mut state, &mut table));
+    println!("library {:?}", cantivorex::count(model));
+    println!("second  {:?}", second::count_api(model));
 }
 
 fn hex_file(name: &str, bytes: &[u8]) {

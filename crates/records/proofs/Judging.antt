@@ -1,24 +1,26 @@
 -- Laws on judging a record: its number from its lists, and its lists from its bytes.
-use Prim.Native.Nat.{ℕ, zero, suc, _+_, _<_}
+use Prim.Native.Nat.{ℕ, zero, suc, _+_, _≤_, _<_}
 use mathlib.Core.Path.{_≡_, refl, ap, sym, _∙_}
 use mathlib.Core.Bool.{Bool, true, false, not, _||_, cond, true≢false}
-use mathlib.Core.List.{List, _∷_}
+use mathlib.Core.List.{List, [], _∷_}
 use mathlib.Core.Option.{Option, none, some, Option·none-ne-some}
 use native.Mathlib.Nat.{not-suc-le-zero, le-of-suc-le-suc, suc-add}
 use native.Mathlib.Omega.{arith}
-use lib.Dec.{leb, eqb}
-use lib.ListN.{length, drop, replicate}
-use borrow.Author.Tests.{eq-eqb, ne-eqb, eqb-true, eqb-false}
+use lib.Dec.{leb}
+use lib.ListN.{length, take, drop, replicate}
+use lib.Seq.{length-take-le, take-add}
+use borrow.Author.Tests.{eq-eqb, ne-eqb, leb-true, leb-false}
 use Rattle.sets.specs.Sets.{any}
 use Rattle.sets.proofs.Laws.{by-test}
 use Rattle.records.specs.Words.{word, ascending}
-use Rattle.records.specs.Records.{given, _orElse_, rows, listCount, cut, listsOf}
+use Rattle.records.specs.Records.{given, _orElse_, recordOf, rows, listCount, cut, listsOf}
 use Rattle.records.specs.Records.{most, overLong, tooLarge, anyList, judge}
 use Rattle.records.specs.Answers.{code}
 use Rattle.records.specs.Contracts.{pickedOf, before}
 use Rattle.records.specs.declared.Kind.{Kind}
 use Rattle.records.specs.declared.Kind.the-variants.{Clause, Rule, Goal}
 use Rattle.records.specs.declared.Row.{Row}
+use Rattle.records.proofs.Sections.{record-fits, record-rest}
 
 -- a record is judged by the marks of its lists, after the mark for its number
 pub judge-is : (K : Kind) (F n : ℕ) (r : List ℕ) → judge K F n r ≡ pickedOf (rows K F) (before K n) (listsOf K r)
@@ -56,6 +58,22 @@ lists-cut K r h = ap (λ (b : Bool). cond b (cut K (drop 2 r)) none) (eq-eqb (le
 pub lists-none : (K : Kind) (r : List ℕ) → (length r ≡ 2 + word r → ⊥) → listsOf K r ≡ none
 unfolding listsOf
 lists-none K r h = ap (λ (b : Bool). cond b (cut K (drop 2 r)) none) (ne-eqb (length r) (2 + word r) h)
+
+-- the same of the record that some bytes start with, whose lists are in the bytes after its length
+module _ (K : Kind) where
+  pub first-cut : (bytes : List ℕ) → 2 + word bytes ≤ length bytes
+      → listsOf K (recordOf bytes) ≡ cut K (take (word bytes) (drop 2 bytes))
+  unfolding word
+  first-cut [] h = absurd (omega arith)
+  first-cut (a ∷ []) h = absurd (omega arith)
+  first-cut (a ∷ b ∷ rest) h =
+      let bytes = a ∷ b ∷ rest in
+      let size = word bytes in
+      let is : recordOf bytes ≡ a ∷ b ∷ take size rest = record-fits bytes h ∙ take-add 2 size bytes in
+      rw is (lists-cut K (a ∷ b ∷ take size rest) (omega (arith, length-take-le size rest (omega arith))))
+
+  pub first-none : (bytes : List ℕ) → length bytes < 2 + word bytes → listsOf K (recordOf bytes) ≡ none
+  first-none bytes h = rw (record-rest bytes h) (lists-none K bytes (λ e. omega arith))
 
 -- ---- a number as a byte
 
@@ -117,8 +135,13 @@ module _ (K : Kind) (F n : ℕ) (r : List ℕ) where
       let j = judged e in
       rw (j .fill, judge) (rw (j .counted, j .short, j .known, j .ordered))
 
-  -- is as long as its length says
-  pub judged-whole : 0 ≡ code (judge K F n r) → length r ≡ 2 + word r
-  judged-whole e =
-      by-test (eqb (length r) (2 + word r)) (eqb-true _ _)
-      (λ q. absurd (Option·none-ne-some _ (sym (lists-none K r (eqb-false _ _ q)) ∙ judged e .fill)))
+-- the record that some bytes start with, if nothing is wrong with it, is as long as its length says
+pub judged-size : (K : Kind) (F n : ℕ) (bytes : List ℕ) → 0 ≡ code (judge K F n (recordOf bytes))
+    → length (recordOf bytes) ≡ 2 + word bytes
+judged-size K F n bytes e =
+    by-test (leb (2 + word bytes) (length bytes))
+    (λ q.
+    let fits : 2 + word bytes ≤ length bytes = leb-true _ _ q in
+    rw (record-fits bytes fits) (length-take-le (2 + word bytes) bytes fits))
+    (λ q. absurd (Option·none-ne-some _
+    (sym (first-none K bytes (leb-false _ _ q)) ∙ judged K F n (recordOf bytes) e .fill)))

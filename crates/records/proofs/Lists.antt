@@ -1,62 +1,32 @@
--- Laws on the lists of a record: their order, and what one more number or one more list does to the marks.
-use Prim.Native.Nat.{ℕ, suc, _+_, _-_, _*_, _%_, _≤_, _<_, zero-le}
+-- Laws on the lists of a record: which number is their largest, and what one more list does to the marks.
+use Prim.Native.Nat.{ℕ, suc, _+_, _-_, _*_, _%_, _≤_, _<_}
 use mathlib.Core.Path.{_≡_, refl, _∙_}
-use mathlib.Core.Logic.{_⊎_, inl, inr}
-use mathlib.Core.Bool.{Bool, true, false, not, _&&_, _||_, cond, or-false, or-assoc}
+use mathlib.Core.Bool.{Bool, true, false, not, _||_, cond, or-true, or-false, or-assoc}
 use mathlib.Core.List.{List, [], _∷_}
 use mathlib.Core.Option.{Option, none, some, Option·map}
 use lib.Dec.{leb, ltb, eqb}
 use native.Mathlib.Nat.{not-suc-le-zero}
-use native.Mathlib.Numerals.{add-one}
 use native.Mathlib.Omega.{arith}
 use lib.ListN.{length, take, drop, length-drop, drop-of-length-le}
 use lib.Seq.{drop-drop}
-use borrow.Author.Tests.{leb-true, leb-false, lt-ltb, le-ltb, le-leb, lt-leb}
+use borrow.Author.Tests.{leb-false, le-ltb, le-leb, lt-leb}
 use Rattle.sets.proofs.Laws.{by-test}
-use Rattle.records.specs.Words.{word, words, odd, ascending}
+use Rattle.records.specs.Words.{word, words, odd}
 use Rattle.records.specs.Records.{bare, cutLists, cutClause}
 use Rattle.records.specs.Contracts.{Marked, picked, pickedOf}
 use Rattle.records.specs.declared.Marks.{Marks}
 use Rattle.records.specs.declared.Row.{Row}
 use Rattle.records.proofs.Words.{odd-is, length-words}
 
--- ---- a mark that is set where a test holds
+-- ---- numbers that ascend
 
--- the mark, old and new, over a test and what is still to come
-pub marked : (old new here later : Bool) → ((here ≡ true) × (new ≡ true)) ⊎ ((here ≡ false) × (new ≡ old))
-    → (old || (here || later)) ≡ (new || later)
-marked true new here later (inl w) = rw (w .1)
-marked false new here later (inl w) = rw (w .0, w .1)
-marked old new here later (inr w) = rw (w .0, w .1)
-
--- ---- order
-
--- some number of the list is below the floor, which is one more than the number before it
-unfoldable pub brokenFrom : ℕ → List ℕ → Bool
-brokenFrom floor [] = false
-brokenFrom floor (x ∷ rest) = ltb x floor || brokenFrom (x + 1) rest
-
--- a test that fails holds the other way round
-not-leb : (a b : ℕ) → not (leb a b) ≡ ltb b a
-not-leb a b = by-test (leb a b) (λ e. rw (e, le-ltb b a (leb-true a b e))) (λ e. rw (e, lt-ltb b a (leb-false a b e)))
-
--- one of two tests fails where they don't both hold
-not-and : (a b : Bool) → not (a && b) ≡ (not a || not b)
-not-and true b = refl
-not-and false b = refl
-
--- after a number the floor is one more than it
-broken-after : (x : ℕ) (rest : List ℕ) → not (ascending (x ∷ rest)) ≡ brokenFrom (x + 1) rest
-unfolding ascending brokenFrom
-broken-after x [] = refl
-broken-after x (y ∷ rest) =
-    not-and (ltb x y) (ascending (y ∷ rest)) ∙ rw (not-leb (suc x) y, broken-after y rest, add-one x)
-
--- a list is strictly ascending exactly if nothing in it is broken, from 0 on
-pub not-ascending : (l : List ℕ) → not (ascending l) ≡ brokenFrom 0 l
-unfolding ascending brokenFrom
-not-ascending [] = refl
-not-ascending (x ∷ rest) = broken-after x rest ∙ rw (le-ltb x 0 zero-le)
+-- the number before a larger one reaches no limit that the larger one doesn't
+pub largest-last : (limit x y : ℕ) (later : Bool) → x < y
+    → (leb limit x || (leb limit y || later)) ≡ (leb limit y || later)
+largest-last limit x y later h =
+    by-test (leb limit y)
+    (λ e. rw (e, or-true))
+    (λ e. let above = leb-false limit y e in rw (lt-leb limit x (omega arith)))
 
 -- ---- cutting a record's bytes into lists
 

@@ -1,46 +1,86 @@
--- `records::mark_list` meets its contract. The loop's invariant: the marks at the start with the whole list give what
--- the marks at hand give with the numbers still to come.
-use Prim.Native.Nat.{ℕ, _+_, _-_, _≤_, zero-le}
-use mathlib.Core.Path.{_≡_, refl, _∙_, sym, ap}
-use mathlib.Core.Logic.{⊎-elim, inl, inr}
+-- `records::mark_list` meets its contract. The loop's invariant: the last number and those still to come tell the
+-- largest and the order of the whole list.
+use Prim.Native.Nat.{ℕ, _+_, _-_, _≤_}
+use mathlib.Core.Path.{_≡_, refl, sym, _∙_}
+use mathlib.Core.Bool.{false, or-true, or-false}
 use mathlib.Core.List.{List, [], _∷_}
-use mathlib.Core.Bool.{_||_, or-false}
 use native.Mathlib.Omega.{arith}
 use lib.Dec.{leb}
 use lib.ListN.{length, drop, length-drop}
-use borrow.Author.Tests.{le-leb, lt-leb, le-ltb, lt-ltb}
+use borrow.Author.Needs.{needs}
+use borrow.Author.Tests.{lt-ltb, le-ltb}
 use denote.Ref.{now}
 use Rattle.sets.specs.Sets.{any}
-use Rattle.records.specs.Words.{words}
-use Rattle.records.proofs.Words.{word-small, words-at, words-none, length-words}
-use Rattle.records.proofs.Lists.{marked, brokenFrom, not-ascending}
+use Rattle.records.specs.Words.{words, ascending}
+use Rattle.records.proofs.Words.{words-two, words-at, words-none, length-words}
+use Rattle.records.proofs.Lists.{largest-last}
 use Rattle.records.proofs.mark_list.Statement.{statement}
 use Rattle.records.proofs.mark_list.Tie as tie
 
 abbrev Inv-loop : tie.InvT-loop
-Inv-loop list row marks fact₀ order₀ floor₀ at₀ fact order floor at =
+Inv-loop list row marks count last₀ at₀ last at =
     (at ≤ length list)
-    × ((marks .fact || any (leb (row .limit)) (words list)) ≡ (fact || any (leb (row .limit)) (words (drop at list))))
-    × ((marks .order || brokenFrom 0 (words list)) ≡ (order || brokenFrom floor (words (drop at list))))
+    × (any (leb (row .limit)) (words list) ≡ any (leb (row .limit)) (last ∷ words (drop at list)))
+    × (ascending (words list) ≡ ascending (last ∷ words (drop at list)))
 
 abbrev μ-loop : tie.MeasureT-loop
-μ-loop list row marks fact₀ order₀ floor₀ at₀ fact order floor at = length list - at
+μ-loop list row marks count last₀ at₀ last at = length list - at
 
-loop-holds : tie.Need-loop-holds Inv-loop μ-loop
-loop-holds c = (zero-le, refl, refl)
-
-sub-loop : tie.Need-sub-loop Inv-loop μ-loop
-sub-loop c = omega arith
+-- no number
+returns : tie.Need-returns Inv-loop μ-loop
+unfolding any ascending
+returns c =
+    let none = words-none (now (c .before .before .before .before .args .list)) (c .if1 .taken) in
+    record {
+      count = rw length-words refl;
+      fact = rw none (sym (or-false _));
+      order = rw none (sym (or-false _));
+    }
 
 word-at-requires : tie.Need-word-at-requires Inv-loop μ-loop
 word-at-requires c κs = omega arith
 
-add-floor : tie.Need-add-floor Inv-loop μ-loop
-add-floor c =
-    let here = c .before .before .before .before .before in
-    let known = here .before in
-    let at = here .loop .at in
-    omega (arith, word-small (now (known .before .args .list)) at (known .shared-slice-known .given))
+loop-holds : tie.Need-loop-holds Inv-loop μ-loop
+loop-holds c =
+    let list = now (c .before .before .before .before .before .args .list) in
+    let two = c .before .if1 .left in
+    let first : words list ≡ c .word-at .result ∷ words (drop 2 list) = rw (c .word-at .ensures) (words-two list two) in
+    (two, rw first, rw first)
+
+sub-loop : tie.Need-sub-loop Inv-loop μ-loop
+sub-loop c = omega arith
+
+word-at-requires-2 : tie.Need-word-at-requires-2 Inv-loop μ-loop
+word-at-requires-2 c κs = omega arith
+
+reaches-requires : tie.Need-reaches-requires Inv-loop μ-loop
+reaches-requires c κs = search needs
+
+-- In a turn: the number at hand, and those from two bytes further on.
+module _ (c : tie.After-word-at2 Inv-loop μ-loop) where
+  abbrev list : List ℕ
+  list = now (c .before .before .before .before .before .before .before .before .args .list)
+
+  abbrev at : ℕ
+  at = c .before .before .loop .at
+
+  next : words (drop at list) ≡ c .word-at2 .result ∷ words (drop (at + 2) list)
+  next = words-at list at (rw length-drop (omega arith)) ∙ rw (← c .word-at2 .ensures)
+
+-- a number that is not above the last breaks the order
+broken : (c : tie.Then2 Inv-loop μ-loop) → ascending (words (list (c .before))) ≡ false
+unfolding ascending
+broken c = c .before .before .before .loop .inv .2 ∙ rw (next (c .before), le-ltb _ _ (c .if2 .taken))
+
+returns-2 : tie.Need-returns-2 Inv-loop μ-loop
+returns-2 c =
+    let out = c .before .before in
+    let start = out .before .before .before .before .before .before .before .before .before in
+    record {
+      count = rw length-words refl;
+      fact = rw (c .before .reaches .ensures) refl;
+      order = rw (broken out) (sym (or-true (start .args .marks .order)));
+    }
 
 add-at : tie.Need-add-at Inv-loop μ-loop
 add-at c = omega arith
@@ -49,42 +89,26 @@ loop-less : tie.Need-loop-less Inv-loop μ-loop
 loop-less c = omega arith
 
 loop-again : tie.Need-loop-again Inv-loop μ-loop
-unfolding any brokenFrom
+unfolding any ascending
 loop-again c =
-    let called = c .before .before .before in
-    let call = called .word-at in
-    let loop = called .before .before .loop in
-    let start = called .before .before .before .before in
-    let list = now (start .args .list) in
-    let f = call .result in
-    let later = words (drop (loop .at + 2) list) in
-    let more : 2 ≤ length (drop (loop .at) list) = rw length-drop (omega arith) in
-    let next : words (drop (loop .at) list) ≡ f ∷ later = rw (call .ensures) (words-at list (loop .at) more) in (
+    let inv = c .before .before .before .loop .inv in (
       omega arith,
-      loop .inv .1
-          ∙ ap (λ (l : List ℕ). loop .fact || any (leb (start .args .row .limit)) l) next
-          ∙ marked _ _ _ _
-          (⊎-elim (λ w. inl (le-leb _ _ (w .0 .taken), w .1)) (λ w. inr (lt-leb _ _ (w .0 .left), w .1))
-          (c .before .if1 .came)),
-      loop .inv .2
-          ∙ ap (λ (l : List ℕ). loop .order || brokenFrom (loop .floor) l) next
-          ∙ marked _ _ _ _
-          (⊎-elim (λ w. inl (lt-ltb _ _ (w .0 .taken), w .1)) (λ w. inr (le-ltb _ _ (w .0 .left), w .1))
-          (c .if2 .came)),
+      inv .1 ∙ rw (next (c .before)) (largest-last _ _ _ _ (c .if2 .left)),
+      inv .2 ∙ rw (next (c .before), lt-ltb _ _ (c .if2 .left)),
     )
 
--- after the loop no number is left, so the two marks are those of the whole list
-returns : tie.Need-returns Inv-loop μ-loop
-unfolding any brokenFrom
-returns c =
+-- no number is left: all ascend, and the last is the largest
+returns-3 : tie.Need-returns-3 Inv-loop μ-loop
+unfolding any ascending
+returns-3 c =
     let here = c .before .before .before in
     let loop = here .loop in
-    let list = now (here .before .before .args .list) in
+    let list = now (here .before .before .before .before .before .before .args .list) in
     let none : words (drop (loop .at) list) ≡ [] = words-none _ (rw length-drop (omega arith)) in
     record {
       count = rw length-words refl;
-      fact = sym (loop .inv .1 ∙ rw none (or-false (loop .fact)));
-      order = rw not-ascending (sym (loop .inv .2 ∙ rw none (or-false (loop .order))));
+      fact = rw (loop .inv .1, none, or-false (leb _ (loop .last))) refl;
+      order = rw (loop .inv .2, none) (sym (or-false _));
     }
 
 pub mark-list-spec : {M : Type 1} → statement M
@@ -93,11 +117,14 @@ mark-list-spec =
     (tie.spec
     Inv-loop
     μ-loop
+    returns
+    word-at-requires
     loop-holds
     sub-loop
-    word-at-requires
-    add-floor
+    word-at-requires-2
+    reaches-requires
+    returns-2
     add-at
     loop-less
     loop-again
-    returns)
+    returns-3)

@@ -1,35 +1,46 @@
 -- `records::record_number` meets its contract: the number of a record whose length fits is that of its lists.
-use Prim.Native.Nat.{ℕ, _+_, _-_}
+use Prim.Native.Nat.{ℕ, _+_, _-_, _<_}
 use mathlib.Core.Path.{_≡_, refl, _∙_, sym}
 use mathlib.Core.List.{List}
 use mathlib.Core.Option.{Option}
 use native.Mathlib.Omega.{arith}
-use lib.ListN.{length, take, drop, length-drop}
+use lib.ListN.{length, take, drop}
 use denote.Ref.{now}
 use Rattle.records.specs.Words.{word}
-use Rattle.records.specs.Records.{judge, rows, listCount, cutLists, cutClause, cut}
+use Rattle.records.specs.Records.{recordOf, judge, rows, listCount, cutLists, cutClause, cut}
 use Rattle.records.specs.Answers.{code}
 use Rattle.records.specs.Contracts.{pickedOf}
 use Rattle.records.specs.declared.Kind.{Kind}
 use Rattle.records.specs.declared.Kind.the-variants.{Clause}
-use Rattle.records.proofs.Sections.{rest-of}
-use Rattle.records.proofs.Judging.{judge-is, lists-cut, lists-none}
+use Rattle.records.proofs.Judging.{judge-is, first-cut, first-none}
 use borrow.Author.Needs.{needs}
 use Rattle.records.proofs.record_number.Statement.{statement}
 use Rattle.records.proofs.record_number.Tie as tie
 
 -- a record whose length does not fit
-without : (K : Kind) (F n : ℕ) (r : List ℕ) → (length r ≡ 2 + word r → ⊥) → code (judge K F n r) ≡ 4
+without : (K : Kind) (F n : ℕ) (bytes : List ℕ) → length bytes < 2 + word bytes
+    → code (judge K F n (recordOf bytes)) ≡ 4
 unfolding code pickedOf
-without K F n r h = rw (judge-is, lists-none K r h)
+without K F n bytes h = rw (judge-is, first-none K bytes h)
 
 returns : tie.Need-returns
 returns c =
     let args = c .before .before .args in
-    sym (without (args .kind) (args .facts) (args .n) (now (args .whole)) (λ e. omega arith))
+    sym (without (args .kind) (args .facts) (args .n) (now (args .rest)) (omega arith))
 
 word-at-requires : tie.Need-word-at-requires
 word-at-requires c κs = search needs
+
+sub-if2 : tie.Need-sub-if2
+sub-if2 c = search needs
+
+returns-2 : tie.Need-returns-2
+returns-2 c =
+    let args = c .before .before .before .before .args in
+    sym (without (args .kind) (args .facts) (args .n) (now (args .rest)) (omega (arith, c .before .word-at .ensures)))
+
+add-body : tie.Need-add-body
+add-body c = search needs
 
 sub-body : tie.Need-sub-body
 sub-body c = search needs
@@ -39,12 +50,6 @@ part-body-start c = search needs
 
 part-body-end : tie.Need-part-body-end
 part-body-end c = search needs
-
-returns-2 : tie.Need-returns-2
-returns-2 c =
-    let args = c .before .before .before .before .before .args in
-    sym (without (args .kind) (args .facts) (args .n) (now (args .whole))
-    (λ e. c .if2 .taken (rw rest-of (rw length-drop (omega arith)))))
 
 beyond-requires : tie.Need-beyond-requires
 beyond-requires c κs = search needs
@@ -70,16 +75,17 @@ lists-number-requires-2 c κs = search needs
 -- one whose length does fit, of a kind whose bytes are known to be cut so
 fitted : (c : tie.After-beyond) (K : Kind) (into : List ℕ → Option (List (List ℕ)))
     → let args = c .before .before .before .before .before .before .args in
-    let whole = now (args .whole) in
+    let size = c .before .before .before .word-at .result in
+    let body = take (size + 2 - 2) (drop 2 (now (args .rest))) in
     args .kind ≡ K
     → cut K ≡ into
-    → code (pickedOf (rows K (args .facts)) (c .beyond .result) (into (take (length whole - 2) (drop 2 whole))))
-    ≡ code (judge (args .kind) (args .facts) (args .n) whole)
+    → code (pickedOf (rows K (args .facts)) (c .beyond .result) (into body))
+    ≡ code (judge (args .kind) (args .facts) (args .n) (recordOf (now (args .rest))))
 fitted c K into kind cuts =
-    let got = c .before in
-    let whole = now (got .before .before .before .before .before .args .whole) in
-    let size : length whole - 2 ≡ got .before .before .word-at .result = rw (got .if2 .left, rest-of, length-drop) in
-    rw (rest-of, c .beyond .ensures, kind, judge-is, lists-cut K whole (omega arith), cuts)
+    let got = c .before .before .before in
+    let rest = now (got .before .before .before .args .rest) in
+    let size : got .word-at .result + 2 - 2 ≡ word rest = omega (arith, got .word-at .ensures) in
+    rw (size, c .beyond .ensures, kind, judge-is, first-cut K rest (omega arith), cuts)
 
 returns-3 : tie.Need-returns-3
 unfolding cut
@@ -107,10 +113,12 @@ record-number-spec =
     (tie.spec
     returns
     word-at-requires
+    sub-if2
+    returns-2
+    add-body
     sub-body
     part-body-start
     part-body-end
-    returns-2
     beyond-requires
     enum-told
     clause-number-requires

@@ -28,7 +28,7 @@ roomy-is m t l e = rw e
 -- the line of a row
 unfoldable line : Case → Line
 unfolding roomy writtenModel writtenTrace
-line c = shown (roomy (writtenModel (c .model)) (writtenTrace (c .trace)))
+line c = shown (roomy (writtenModel (c .version) (c .model)) (writtenTrace (c .trace)))
 
 -- The lines are those expected.
 all-lines : map line cases ≡ map (λ c. c .expected) cases
@@ -44,7 +44,7 @@ same-at f g (y ∷ ys) e x (List·Memᴰ·tail m) = same-at f g ys (cc) x m
 pub cases-hold : AllHold
 unfolding line
 cases-hold c m l e =
-    ap (λ (v : Verdict). shown v) (roomy-is (writtenModel (c .model)) (writtenTrace (c .trace)) l e)
+    ap (λ (v : Verdict). shown v) (roomy-is (writtenModel (c .version) (c .model)) (writtenTrace (c .trace)) l e)
     ∙ same-at line (λ c. c .expected) cases all-lines c m
 
 -- The desk model's bytes are those that the document states, and so are the round numbers at its start.

@@ -4,9 +4,11 @@ use mathlib.Core.Path.{_≡_, refl, sym, ap, _∙_}
 use mathlib.Core.Bool.{Bool, true, false, not, _&&_, _||_}
 use mathlib.Core.List.{List, _∷_, List·Memᴰ·head, List·Memᴰ·tail}
 use native.Mathlib.Omega.{arith}
+use borrow.Author.Tests.{eqb-true}
 use lib.Dec.{eqb}
 use lib.ListN.{length, drop, length-drop}
-use Rattle.sets.specs.Sets.{any, listed, _∈_}
+use Rattle.sets.specs.Sets.{Facts, any, listed, _∈_}
+use Rattle.sets.proofs.Laws.{by-test}
 use Rattle.facts.specs.Facts.{members}
 use Rattle.records.specs.Words.{word, words}
 use Rattle.records.proofs.Words.{words-at, words-none}
@@ -23,42 +25,63 @@ known-here list at h k =
     let e : words (drop at list) ≡ word (drop at list) ∷ words (drop (at + 2) list) = words-at list at more in
     (k (word (drop at list)) (rw e (List·Memᴰ·head refl)), λ f i. k f (rw e (List·Memᴰ·tail i)))
 
--- u is what a fact of the list does to the membership of a fact: adding or removing
-module _ (u : Bool → Bool → Bool) (idle : (x : Bool) → u x false ≡ x)
-    (twice : (x a b : Bool) → u (u x a) b ≡ u x (a || b)) where
+-- u is what a fact of the list does to the membership of a fact g: adding or removing
+module _ (u : ℕ → Bool → Bool → Bool) (idle : (g : ℕ) (x : Bool) → u g x false ≡ x)
+    (twice : (g : ℕ) (x a b : Bool) → u g (u g x a) b ≡ u g x (a || b)) where
   -- one fact more is done: what the facts from here on do is what those from the next place on do afterwards
   pub done-one : (list state state' : List ℕ) (at : ℕ) → at + 2 ≤ length list
-      → ((g : ℕ) → members state' g ≡ u (members state g) (eqb g (word (drop at list)))) → (g : ℕ)
-      → u (members state' g) (listed (words (drop (at + 2) list)) g)
-      ≡ u (members state g) (listed (words (drop at list)) g)
+      → ((g : ℕ) → members state' g ≡ u g (members state g) (eqb g (word (drop at list)))) → (g : ℕ)
+      → u g (members state' g) (listed (words (drop (at + 2) list)) g)
+      ≡ u g (members state g) (listed (words (drop at list)) g)
   unfolding listed any
   done-one list state state' at h e g =
       let here = sym (words-at list at (rw length-drop (omega arith))) in
-      rw (e g) (twice _ _ _ ∙ ap (λ (l : List ℕ). u (members state g) (listed l g)) here)
+      rw (e g) (twice g _ _ _ ∙ ap (λ (l : List ℕ). u g (members state g) (listed l g)) here)
 
   -- where fewer than two bytes are left there is nothing to do
   pub done-all : (list state : List ℕ) (at : ℕ) → length list < at + 2 → (g : ℕ)
-      → u (members state g) (listed (words (drop at list)) g) ≡ members state g
+      → u g (members state g) (listed (words (drop at list)) g) ≡ members state g
   unfolding listed any
   done-all list state at h g =
-      ap (λ (l : List ℕ). u (members state g) (listed l g)) (words-none (drop at list) (rw length-drop (omega arith)))
-      ∙ idle _
+      ap (λ (l : List ℕ). u g (members state g) (listed l g)) (words-none (drop at list) (rw length-drop (omega arith)))
+      ∙ idle g _
 
 -- adding, then adding
-pub add-twice : (x a b : Bool) → ((x || a) || b) ≡ (x || (a || b))
-add-twice true a b = refl
-add-twice false a b = refl
+pub add-twice : (g : ℕ) (x a b : Bool) → ((x || a) || b) ≡ (x || (a || b))
+add-twice g true a b = refl
+add-twice g false a b = refl
 
-pub add-idle : (x : Bool) → (x || false) ≡ x
-add-idle true = refl
-add-idle false = refl
+pub add-idle : (g : ℕ) (x : Bool) → (x || false) ≡ x
+add-idle g true = refl
+add-idle g false = refl
+
+-- what a fact that goes does to the membership of a fact g, where those of a set stay
+abbrev pub without : Facts → ℕ → Bool → Bool → Bool
+without persistent g x gone = x && not (gone && not (persistent g))
 
 -- removing, then removing
-pub remove-twice : (x a b : Bool) → ((x && not a) && not b) ≡ (x && not (a || b))
-remove-twice true true b = refl
-remove-twice true false b = refl
-remove-twice false a b = refl
+pub remove-twice : (k : Facts) (g : ℕ) (x a b : Bool) → without k g (without k g x a) b ≡ without k g x (a || b)
+remove-twice k g x a b = go (k g) x a b
+  where
+    go : (k x a b : Bool) → ((x && not (a && not k)) && not (b && not k)) ≡ (x && not ((a || b) && not k))
+    go true true true true = refl
+    go true true true false = refl
+    go true true false b = refl
+    go false true true b = refl
+    go false true false b = refl
+    go k false a b = refl
 
-pub remove-idle : (x : Bool) → (x && not false) ≡ x
-remove-idle true = refl
-remove-idle false = refl
+pub remove-idle : (k : Facts) (g : ℕ) (x : Bool) → without k g x false ≡ x
+remove-idle k g true = refl
+remove-idle k g false = refl
+
+-- Removing a fact of the set changes nothing;
+pub keeps : (k : Facts) (n : ℕ) → k n ≡ true → (g : ℕ) (x : Bool) → without k g x (eqb g n) ≡ x
+keeps k n e g x =
+    by-test (eqb g n) (λ t. let same : g ≡ n = eqb-true g n t in rw (t, same, e) (remove-idle k g x))
+    (λ t. rw t (remove-idle k g x))
+
+-- removing another takes it away.
+pub takes : (k : Facts) (n : ℕ) → k n ≡ false → (g : ℕ) (x : Bool) → without k g x (eqb g n) ≡ (x && not (eqb g n))
+takes k n e g x =
+    by-test (eqb g n) (λ t. let same : g ≡ n = eqb-true g n t in rw (t, same, e)) (λ t. rw t)

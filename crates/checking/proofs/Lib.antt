@@ -11,3 +11,4 @@ pub mod Naming
 pub mod Unique
 pub mod Theorems
 pub mod Cases
+pub mod Versions

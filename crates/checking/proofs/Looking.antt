@@ -14,9 +14,8 @@ use Rattle.meaning.specs.Run.{Condition, met, conditions, find, unmet}
 use Rattle.meaning.specs.Run.Condition.{positive, negative}
 use Rattle.meaning.proofs.Runs.{find-here, find-later, find-end, length-conditions, positive-at, negative-at}
 use Rattle.records.specs.Words.{word, words}
-use Rattle.records.proofs.Words.{length-words}
+use Rattle.records.proofs.Words.{words-index, length-words}
 use Rattle.files.specs.Known.{Known}
-use Rattle.files.proofs.Traces.{words-index}
 use Rattle.checking.specs.Verdict.{factIn}
 use Rattle.checking.specs.Running.{KnownIn}
 

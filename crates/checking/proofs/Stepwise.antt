@@ -1,7 +1,7 @@
 -- Laws on the search over the steps: it stands before a step, the buffers hold the state reached there, and where the
 -- steps lead is where the others lead from there.
 use Prim.Native.Nat.{ℕ, _+_, _*_, _≤_, _<_}
-use mathlib.Core.Path.{_≡_, refl, sym, ap, _∙_, fun-ext}
+use mathlib.Core.Path.{subst, _≡_, refl, sym, ap, _∙_, fun-ext}
 use mathlib.Core.Bool.{_||_, _&&_, not}
 use mathlib.Core.List.{List}
 use mathlib.Core.Option.{Option, none, some}
@@ -79,12 +79,12 @@ module _ (m t : List ℕ) where
 
     module _ {table' : List ℕ} {n : ℕ} (closed : ClosesUnder (M .clauses) state table table' n) where
       -- The rule fires.
-      pub on-fired : {state' P A : List ℕ} → fired < length ks → asked none → n ≤ 4096
-          → P ≡ ruleOf M (getD ks fired 0) .P → A ≡ ruleOf M (getD ks fired 0) .A
-          → Holds state state' (λ g. members state g && not (listed P g) || listed A g)
+      pub on-fired : {state' P A K : List ℕ} → fired < length ks → asked none → n ≤ 4096
+          → P ≡ ruleOf M (getD ks fired 0) .P → A ≡ ruleOf M (getD ks fired 0) .A → K ≡ M .persistent
+          → Holds state state' (λ g. members state g && not (listed P g && not (listed K g)) || listed A g)
           → On state₀ table₀ state' table' (fired + 1) (total + n)
       unfolding after
-      on-fired {state'} h u few p a holds = record {
+      on-fired {state'} {P} {A} {K} h u few p a k applied = record {
         run =
             on .run
             ∙ step-fires M (stateIn state) ks fired total h u
@@ -98,6 +98,12 @@ module _ (m t : List ℕ) where
         as-long = closed .filled .as-long ∙ on .as-long;
         beyond = closed .filled .beyond ∙ on .beyond;
       }
+        where
+          effect : (K : List ℕ) → Facts
+          effect K g = members state g && not (listed P g && not (listed K g)) || listed A g
+
+          holds : Holds state state' (effect (M .persistent))
+          holds = subst (λ K. Holds state state' (effect K)) k applied
 
       -- A condition of it is not met.
       pub on-stop : {c : Condition} {r : Steps} → fired < length ks → asked (some c) → r .fired ≡ fired

@@ -1,5 +1,5 @@
 -- Document 01's cases A to L as one table: a model and a trace, and the line expected ("The desk model and its
--- traces").
+-- traces"); and the cases that show why document 02's wish 2 was made.
 use Prim.Native.Nat.{ℕ}
 use mathlib.Core.Path.{_≡_}
 use mathlib.Core.Bool.{false}
@@ -40,6 +40,7 @@ unfolding r0
 desk = record {
   F = 6;
   initial = 0 ∷ 1 ∷ 4 ∷ [];
+  persistent = [];
   clauses = 2 from (0 ∷ 1 ∷ []) ∷ 5 from (2 ∷ 4 ∷ []) ∷ [];
   rules = r0 ∷ rule (0 ∷ []) [] [] ∷ rule (1 ∷ []) [] (1 ∷ []) ∷ [];
   goals = goal (3 ∷ 5 ∷ []) [] ∷ goal (4 ∷ []) (0 ∷ []) ∷ [];
@@ -48,13 +49,13 @@ desk = record {
 -- "Other models have one attack state, whose P is the fact called goal below and whose N is empty; no rules"
 abbrev pub other : ℕ → List ℕ → List Clause → List ℕ → Model
 other F initial clauses P =
-    record { F = F; initial = initial; clauses = clauses; rules = []; goals = goal P [] ∷ [] }
+    record { F = F; initial = initial; persistent = []; clauses = clauses; rules = []; goals = goal P [] ∷ [] }
 
 -- what the document says of the desk model: "The file has 101 bytes; r0 is ..", "Round numbers at the start: 0, 0, 1,
 -- none, 0, 2.", "Trace B is .."; and the file is read as that model
 pub record DeskModel : Type 0 where
-  pub size : length (writtenModel desk) ≡ 101
-  pub read : modelOf (writtenModel desk) ≡ desk
+  pub size : length (writtenModel 1 desk) ≡ 101
+  pub read : modelOf (writtenModel 1 desk) ≡ desk
   pub r0-bytes : ruleBytes r0
       ≡ 0x00 ∷ 0x0C ∷ 0x00 ∷ 0x01 ∷ 0x00 ∷ 0x05 ∷ 0x00 ∷ 0x01 ∷ 0x00 ∷ 0x03 ∷ 0x00 ∷ 0x01 ∷ 0x00 ∷ 0x03 ∷ []
   pub trace-B : writtenTrace (trace 0 (1 ∷ 0 ∷ []))
@@ -64,14 +65,16 @@ pub record DeskModel : Type 0 where
 
 -- ---- the table
 
--- a row: a model and a trace, and the line for their files
+-- a row: a model, in a file of a version, and a trace, and the line for their files
 pub record Case : Type 0 where
+  pub version : ℕ
   pub model : Model
   pub trace : Trace
   pub expected : Line
 
-abbrev case : Model → Trace → ℕ → ℕ → ℕ → ℕ → ℕ → ℕ → ℕ → Case
-case m t number step fact rounds held kind round = record {
+abbrev row : ℕ → Model → Trace → ℕ → ℕ → ℕ → ℕ → ℕ → ℕ → ℕ → Case
+row version m t number step fact rounds held kind round = record {
+  version = version;
   model = m;
   trace = t;
   expected = record {
@@ -85,9 +88,46 @@ case m t number step fact rounds held kind round = record {
   };
 }
 
--- the rows of "The desk model and its traces", A to L
+abbrev case : Model → Trace → ℕ → ℕ → ℕ → ℕ → ℕ → ℕ → ℕ → Case
+case = row 1
+
+-- "When the fact holds only through a clause, the step stores it, and it outlives its derivation." (document 02, wish
+-- 2): fact 1 holds through fact 0; the first rule asks for 1, the second takes 0 away, and 1 is the attack. As 01 has
+-- it, the first rule adds 1 again; as published, 1 is persistent.
+unfoldable pub translated : Model
+translated = record {
+  F = 2;
+  initial = 0 ∷ [];
+  persistent = [];
+  clauses = 1 from (0 ∷ []) ∷ [];
+  rules = rule (1 ∷ []) [] (1 ∷ []) ∷ rule (0 ∷ []) [] [] ∷ [];
+  goals = goal (1 ∷ []) [] ∷ [];
+}
+
+unfoldable pub published : Model
+published = record {
+  F = 2;
+  initial = 0 ∷ [];
+  persistent = 1 ∷ [];
+  clauses = 1 from (0 ∷ []) ∷ [];
+  rules = rule (1 ∷ []) [] [] ∷ rule (0 ∷ []) [] [] ∷ [];
+  goals = goal (1 ∷ []) [] ∷ [];
+}
+
+-- "only those of P that aren't persistent": the rule asks for the stored facts 0 and 1, and 1 is persistent
+unfoldable pub stored : Model
+stored = record {
+  F = 2;
+  initial = 0 ∷ 1 ∷ [];
+  persistent = 1 ∷ [];
+  clauses = [];
+  rules = rule (0 ∷ 1 ∷ []) [] [] ∷ [];
+  goals = goal (1 ∷ []) (0 ∷ []) ∷ [];
+}
+
+-- the rows of "The desk model and its traces", A to L, and those of persistence
 unfoldable pub cases : List Case
-unfolding desk
+unfolding desk translated published stored
 cases =
     -- A to G, on the desk model
     case desk (trace 0 (0 ∷ [])) 0 1 65535 4 4 0 65535
@@ -106,9 +146,15 @@ cases =
     (trace 0 []) 0 0 65535 3 1 0 65535
     ∷ case (other 4 (0 ∷ []) (1 from (0 ∷ []) ∷ 2 from (1 ∷ []) ∷ 3 from (2 ∷ []) ∷ []) (3 ∷ []))
     (trace 0 []) 0 0 65535 3 1 0 65535
+    -- persistence: 01's way finds an attack where there is none
+    ∷ case translated (trace 0 (0 ∷ 1 ∷ [])) 0 2 65535 1 1 0 65535
+    ∷ row 2 published (trace 0 (0 ∷ 1 ∷ [])) 11 2 1 2 0 1 65535
+    -- a stored persistent fact stays; what isn't persistent goes, so that the rule fires once
+    ∷ row 2 stored (trace 0 (0 ∷ [])) 0 1 65535 0 1 0 65535
+    ∷ row 2 stored (trace 0 (0 ∷ 0 ∷ [])) 10 1 0 0 1 1 65535
     ∷ []
 
 -- the claim: with enough room, the verdict on every case's files shows the line expected
 abbrev pub AllHold : Type 0
 AllHold = (c : Case) → c ∈ cases → (l : Lent) → noRoom (l .state) (l .table) ≡ false
-    → shown (verdict (writtenModel (c .model)) (writtenTrace (c .trace)) l) ≡ c .expected
+    → shown (verdict (writtenModel (c .version) (c .model)) (writtenTrace (c .trace)) l) ≡ c .expected

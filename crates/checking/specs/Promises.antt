@@ -124,3 +124,15 @@ pub record Kinds (m t : List ℕ) (v : Verdict) : Type 0 where
 pub data InFile (m t : List ℕ) (p : Part) : Type 0 where
   inModel : p .mark ≡ 0 → p .start + p .size ≤ length m → InFile m t p
   inTrace : p .mark ≡ 1 → p .start + p .size ≤ length t → InFile m t p
+
+-- ---- versions (document 02, wish 2)
+
+-- "a persistent set, empty for version 1": a model of version 1 and one without persistent facts, the same lists
+pub record SameLists (one two : List ℕ) : Type 0 where
+  pub version : getD one 0 0 ≡ 1
+  pub none-persistent : modelOf two .persistent ≡ []
+  pub F : modelOf one .F ≡ modelOf two .F
+  pub initial : modelOf one .initial ≡ modelOf two .initial
+  pub clauses : modelOf one .clauses ≡ modelOf two .clauses
+  pub rules : modelOf one .rules ≡ modelOf two .rules
+  pub goals : modelOf one .goals ≡ modelOf two .goals

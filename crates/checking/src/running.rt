@@ -53,6 +53,7 @@ fn search(model: &[u8], trace: &[u8], state: &mut [u8], table: &mut [u16]) -> St
 {
     let entries = held::entries(trace);
     let steps = entries.len() / 2 - 1;
+    let persistent = held::section(model, Role::Persistent);
     let mut fired = 0;
     let mut rounds = 0;
     let stop = 'search: loop {
@@ -72,7 +73,8 @@ fn search(model: &[u8], trace: &[u8], state: &mut [u8], table: &mut [u16]) -> St
             }
             i += 1;
         }
-        stepping::apply(p, lists::list_of(rule, Kind::Rule, 2), state);
+        let a = lists::list_of(rule, Kind::Rule, 2);
+        stepping::apply(p, a, persistent, state);
         fired += 1;
     };
     Steps {

@@ -18,9 +18,8 @@ use Rattle.facts.specs.Facts.{members, AnyFrom}
 use Rattle.facts.proofs.Laws.{beyond}
 use Rattle.records.specs.Records.{given, _orElse_}
 use Rattle.records.specs.declared.Fault.{Fault}
-use Rattle.sections.specs.Sections.{tooLong, wrongVersion}
-use Rattle.files.specs.Files.{factCount, modelOf, shapeFault, modelFault, modelBytes}
-use Rattle.sections.proofs.Fits.{neither}
+use Rattle.files.specs.Files.{factCount, modelOf, shapeFault, modelFault}
+use Rattle.files.proofs.Causes.{fine-shape}
 use Rattle.files.proofs.Laws.{facts-bound, clauses-bound, clause-below}
 use Rattle.files.proofs.Causes.{model-fault-range}
 use Rattle.closing.specs.Closing.{Bounded, ClosesUnder, noRoom, someFrom, closeRefusal, answer, Table, Closes}
@@ -72,13 +71,6 @@ some-from state F false a =
         subst T (a .none refl f (leb-true F f (is-true from))) in-set
 
 -- ---- a judged model
-
--- a model without a fault has none of 4 to 7
-pub fine-shape : (m : List ℕ) → modelFault m ≡ none → shapeFault m ≡ none
-unfolding modelFault
-fine-shape m e =
-    neither (wrongVersion m) (shapeFault m)
-    (neither (tooLong modelBytes m) (wrongVersion m orElse shapeFault m) e .1) .1
 
 pub bounded : (m : List ℕ) → shapeFault m ≡ none → Bounded (modelOf m .clauses)
 bounded m fine = record {

@@ -10,19 +10,14 @@ use native.Mathlib.Omega.{arith}
 use borrow.Author.Tests.{ltb-true, ltb-false, le-leb, leb-true}
 use lib.Dec.{T, leb, ltb}
 use lib.ListN.{length}
-use Rattle.sets.specs.Sets.{Facts, first}
+use Rattle.sets.specs.Sets.{first}
 use Rattle.sets.proofs.Laws.{is-true, passes, fails, both, by-test, below-or-from, first-hit, first-before}
 use Rattle.facts.specs.Facts.{members}
 use Rattle.facts.proofs.Laws.{beyond}
 use Rattle.records.specs.Records.{given, _orElse_}
 use Rattle.records.specs.declared.Fault.{Fault}
-use Rattle.sections.specs.Sections.{tooLong, wrongVersion}
-use Rattle.files.specs.Files.{factCount, modelFault, modelBytes, modelOf}
-use Rattle.files.specs.Causes.{Starts}
-use Rattle.files.proofs.Found.{either-found}
-use Rattle.files.proofs.Traces.{not-long}
-use Rattle.files.proofs.ModelCauses.{model-cause}
-use Rattle.files.proofs.Causes.{starts, starts-byte, version-cause, long-cause}
+use Rattle.files.specs.Files.{factCount, modelFault, modelOf}
+use Rattle.files.proofs.Causes.{alone-cause}
 use Rattle.files.proofs.Exact.{model-right, model-number, model-exactly}
 use Rattle.meaning.specs.Rounds.{rounds}
 use Rattle.closing.specs.Closing.{noRoom, someFrom, closeRefusal, answer, Table, Closes}
@@ -69,17 +64,9 @@ module _ (F : ℕ) (state : List ℕ) where
 
 module _ (m state table : List ℕ) where
   fault-cause : Room state table → (f : Fault) → modelFault m ≡ some f → RefusedFor m state table (f .number)
-  unfolding modelFault
-  fault-cause room f e =
-      ⊎-elim (λ e. long-cause modelBytes m (λ k _. RefusedFor m state table k) f e (RefusedFor.long room) .cause)
-      (λ (short, e).
-      let size = not-long modelBytes m short in
-      ⊎-elim (λ e. version-cause m (λ k _. RefusedFor m state table k) f e (RefusedFor.version room size) .cause)
-      (λ (version, e).
-      let first = starts m version in
-      RefusedFor.wrong room size first (model-cause m (starts-byte m first) f e .cause))
-      (either-found (wrongVersion m) _ f e))
-      (either-found (tooLong modelBytes m) _ f e)
+  fault-cause room =
+      alone-cause m (RefusedFor m state table) (RefusedFor.long room) (RefusedFor.version room)
+      (λ _ _. RefusedFor.wrong room)
 
   alone : modelFault m ≡ none → RightAlone m
   alone e =

@@ -16,7 +16,7 @@ use Rattle.meaning.specs.Promises.{IsRounds, IsRoundNumber}
 use Rattle.facts.specs.Facts.{members}
 use Rattle.records.specs.Records.{given, _orElse_}
 use Rattle.files.specs.Files.{factCount, modelOf, modelFault}
-use Rattle.files.specs.Causes.{ModelCause, RightModel, Starts}
+use Rattle.files.specs.Causes.{ModelCause, RightModel, ModelStarts}
 use Rattle.closing.specs.declared.Closed.{Closed}
 
 -- ---- the round table
@@ -109,7 +109,7 @@ pub record Room (state table : List ℕ) : Type 0 where
 -- the model by itself is well-formed
 pub record RightAlone (m : List ℕ) : Type 0 where
   pub size : length m ≤ 65536
-  pub first : Starts m
+  pub first : ModelStarts m
   pub model : RightModel m
 
 -- the cause of each refusal, with nothing there that comes before it: "it gives 1 to 8 below for what it is lent, then
@@ -117,8 +117,8 @@ pub record RightAlone (m : List ℕ) : Type 0 where
 pub data RefusedFor (m state table : List ℕ) : ℕ → Type 0 where
   room : (length state < 512) ⊎ (length table < 4096) → RefusedFor m state table 1
   long : Room state table → 65536 < length m → RefusedFor m state table 2
-  version : Room state table → length m ≤ 65536 → (Starts m → ⊥) → RefusedFor m state table 3
-  wrong : {k : ℕ} {bytes : List ℕ} → Room state table → length m ≤ 65536 → Starts m → ModelCause m k bytes
+  version : Room state table → length m ≤ 65536 → (ModelStarts m → ⊥) → RefusedFor m state table 3
+  wrong : {k : ℕ} {bytes : List ℕ} → Room state table → length m ≤ 65536 → ModelStarts m → ModelCause m k bytes
       → RefusedFor m state table k
   fact : Room state table → RightAlone m → (f : ℕ) → factCount m ≤ f → T (members state f)
       → RefusedFor m state table 6

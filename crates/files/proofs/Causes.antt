@@ -1,55 +1,95 @@
 -- Every fault of a pair has its cause (specs/Causes), and its bytes are a part of the file at fault.
-use Prim.Native.Nat.{ℕ, _≤_, _<_}
-use mathlib.Core.Path.{_≡_, refl, subst}
-use mathlib.Core.Logic.{⊎-elim}
-use mathlib.Core.Bool.{not}
-use mathlib.Core.List.{List, [], _∷_}
+use Prim.Native.Nat.{ℕ, zero, suc, _≤_, _<_}
+use mathlib.Core.Path.{_≡_, refl, sym, subst, _∙_}
+use mathlib.Core.Logic.{_↔_, ⊎-elim}
+use mathlib.Core.Bool.{true≢false, _||_}
+use mathlib.Core.List.{List, [], _∷_, List·Memᴰ·head, List·Memᴰ·tail}
 use mathlib.Core.Option.{Option, none, some, Option·map, map-eq-none-iff, Option·none-ne-some, Option·some-ne-none}
 use mathlib.Core.Option.{Option·some-injective}
 use native.Mathlib.Omega.{arith}
-use borrow.Author.Tests.{ltb-true, eqb-true, eqb-false, not-true, not-false}
-use lib.Dec.{ltb, eqb}
+use borrow.Author.Tests.{ltb-true, ltb-false, le-ltb}
+use lib.Dec.{ltb}
 use lib.ListN.{length, take, getD, length-take}
 use lib.Seq.{take-length}
+use Rattle.sets.specs.Sets.{_∈_}
+use Rattle.records.proofs.Judging.{or-clear}
 use Rattle.records.specs.declared.Fault.{Fault}
 use Rattle.sections.specs.Sections.{tooLong, wrongVersion}
 use Rattle.sections.proofs.Fits.{neither, not-given}
-use Rattle.files.specs.Files.{Blamed, modelBytes, traceBytes}
-use Rattle.files.specs.Files.{modelFault, headsFault, filesFault, pairFault}
+use Rattle.files.specs.Files.{Blamed, modelBytes, traceBytes, modelVersion, traceVersion}
+use Rattle.files.specs.Files.{shapeFault, modelFault, headsFault, filesFault, pairFault}
 use Rattle.files.specs.Files.Blamed.{model, trace}
-use Rattle.files.specs.Causes.{ModelCause, TraceCause, Starts, RightSizes, RightHeads, Cause, RightPair}
+use Rattle.files.specs.Causes.{ModelCause, TraceCause, Starts, ModelStarts, RightSizes, RightHeads, Cause, RightPair}
 use Rattle.files.proofs.Found.{either-found, given-found, Found}
 use Rattle.files.proofs.ModelCauses.{right-model, model-cause}
 use Rattle.files.proofs.TraceCauses.{trace-cause, trace-right}
 use Rattle.files.proofs.Wrong.{wrong-range}
 use Rattle.files.proofs.Traces.{file-then, not-long, fine-pair, trace-goal-known, trace-step-known}
 
--- a file of the right version starts with 1
-pub starts : (file : List ℕ) → wrongVersion file ≡ none → Starts file
-unfolding Starts wrongVersion
-starts [] e = absurd (Option·some-ne-none _ e)
-starts (b ∷ rest) e = let one : b ≡ 1 = eqb-true _ _ (not-false _ (not-given _ _ e)) in (rest, rw one)
+-- ---- versions
 
-pub starts-byte : (file : List ℕ) → Starts file → 1 ≤ length file
+-- these are the versions from 1 to the latest
+abbrev UpTo : ℕ → List ℕ → Type 0
+UpTo latest versions = (v : ℕ) → (v ∈ versions) ↔ ((1 ≤ v) × (v ≤ latest))
+
+pub model-versions : UpTo modelVersion (1 ∷ 2 ∷ [])
+model-versions v = (known, listed v)
+  where
+    known : {v : ℕ} → v ∈ 1 ∷ 2 ∷ [] → (1 ≤ v) × (v ≤ 2)
+    known (List·Memᴰ·head e) = (omega arith, omega arith)
+    known (List·Memᴰ·tail (List·Memᴰ·head e)) = (omega arith, omega arith)
+
+    listed : (v : ℕ) → (1 ≤ v) × (v ≤ 2) → v ∈ 1 ∷ 2 ∷ []
+    listed zero (low, high) = absurd (omega arith)
+    listed (suc zero) h = List·Memᴰ·head refl
+    listed (suc (suc zero)) h = List·Memᴰ·tail (List·Memᴰ·head refl)
+    listed (suc (suc (suc v))) (low, high) = absurd (omega arith)
+
+pub trace-versions : UpTo traceVersion (1 ∷ [])
+trace-versions v = (known, listed v)
+  where
+    known : {v : ℕ} → v ∈ 1 ∷ [] → (1 ≤ v) × (v ≤ 1)
+    known (List·Memᴰ·head e) = (omega arith, omega arith)
+
+    listed : (v : ℕ) → (1 ≤ v) × (v ≤ 1) → v ∈ 1 ∷ []
+    listed zero (low, high) = absurd (omega arith)
+    listed (suc zero) h = List·Memᴰ·head refl
+    listed (suc (suc v)) (low, high) = absurd (omega arith)
+
+-- a file of a right version starts with one of them
+pub starts : {latest : ℕ} {versions : List ℕ} → UpTo latest versions → (file : List ℕ)
+    → wrongVersion latest file ≡ none → Starts versions file
+unfolding Starts wrongVersion
+starts known [] e = absurd (Option·some-ne-none _ e)
+starts {latest} known (b ∷ rest) e =
+    let (low, high) = or-clear (ltb b 1) (ltb latest b) (not-given _ _ e) in
+    (b, known b .1 (ltb-false _ _ low, ltb-false _ _ high), rest, refl)
+
+pub starts-byte : (versions file : List ℕ) → Starts versions file → 1 ≤ length file
 unfolding Starts
-starts-byte file (rest, e) = rw e (omega arith)
+starts-byte versions file (v, i, rest, e) = rw e (omega arith)
 
 -- the part of the first byte, or of none
 first-byte : (file : List ℕ) → take (length (take 1 file)) file ≡ take 1 file
 first-byte [] = refl
 first-byte (b ∷ rest) = refl
 
-pub version-cause : (file : List ℕ) (C : ℕ → List ℕ → Type 0) (f : Fault) → wrongVersion file ≡ some f
-    → ((Starts file → ⊥) → C 3 (take 1 file))
+pub version-cause : {latest : ℕ} {versions : List ℕ} → UpTo latest versions → (file : List ℕ)
+    → (C : ℕ → List ℕ → Type 0) (f : Fault) → wrongVersion latest file ≡ some f
+    → ((Starts versions file → ⊥) → C 3 (take 1 file))
     → Found file C f
 unfolding wrongVersion Starts
-version-cause file C f e c =
+version-cause {latest} known file C f e c =
     let fault : Fault = record { number = 3; start = 0; size = length (take 1 file) } in
-    let (test, is) = given-found (not (eqb (getD file 0 0) 1)) fault f e in
-    let other : getD file 0 0 ≡ 1 → ⊥ = eqb-false _ _ (not-true _ test) in
+    let version = getD file 0 0 in
+    let (test, is) = given-found (ltb version 1 || ltb latest version) fault f e in
+    let other : (1 ≤ version) × (version ≤ latest) → ⊥ = λ (low, high).
+    true≢false (sym test ∙ rw (le-ltb version 1 low, le-ltb latest version high)) in
     rw is (record {
       within = omega (arith, length-take 1 file);
-      cause = rw (first-byte file) (c (λ (rest, q). other (rw q)));
+      cause = rw (first-byte file) (c (λ (v, i, rest, q).
+          let is : version ≡ v = rw q in
+          other (rw is (known v .0 i))));
     })
 
 pub long-cause : (most : ℕ) (file : List ℕ) (C : ℕ → List ℕ → Type 0) (f : Fault) → tooLong most file ≡ some f
@@ -86,9 +126,12 @@ module _ (m t : List ℕ) where
       (λ (n₂, e).
       let t-size = not-long traceBytes t (map-eq-none-iff trace _ .0 n₂) in
       let right : RightSizes m t = record { model = m-size; trace = t-size } in
-      ⊎-elim (λ e. blame-found model _ b e (λ f e. version-cause m (Cause m t 0) f e (Cause.version-model right)))
+      ⊎-elim
+      (λ e. blame-found model _ b e
+      (λ f e. version-cause model-versions m (Cause m t 0) f e (Cause.version-model right)))
       (λ (n₃, e). blame-found trace _ b e
-      (λ f e. version-cause t (Cause m t 1) f e (Cause.version-trace right (starts m (map-eq-none-iff model _ .0 n₃)))))
+      (λ f e. version-cause trace-versions t (Cause m t 1) f e
+      (Cause.version-trace right (starts model-versions m (map-eq-none-iff model _ .0 n₃)))))
       (either-found _ _ b e)) (either-found _ _ b e)) (either-found _ _ b e)
 
   -- Where nothing is found in the heads they are right.
@@ -97,11 +140,11 @@ module _ (m t : List ℕ) where
   right-heads e =
       let (e₁, r₁) = file-then model (tooLong modelBytes m) _ e in
       let (e₂, r₂) = file-then trace (tooLong traceBytes t) _ r₁ in
-      let (e₃, r₃) = file-then model (wrongVersion m) _ r₂ in
+      let (e₃, r₃) = file-then model (wrongVersion modelVersion m) _ r₂ in
       record {
         sizes = record { model = not-long modelBytes m e₁; trace = not-long traceBytes t e₂ };
-        model = starts m e₃;
-        trace = starts t (map-eq-none-iff trace _ .0 r₃);
+        model = starts model-versions m e₃;
+        trace = starts trace-versions t (map-eq-none-iff trace _ .0 r₃);
       }
 
   -- The fault of a pair has its cause, and its bytes are a part of the file at fault.
@@ -113,7 +156,7 @@ module _ (m t : List ℕ) where
       (λ (fine, e).
       let heads = right-heads fine in
       blame-found model _ b e
-      (λ f e. found-in (model-cause m (starts-byte m (heads .model)) f e) (λ k bytes c. Cause.in-model heads c)))
+      (λ f e. found-in (model-cause m (starts-byte _ m (heads .model)) f e) (λ k bytes c. Cause.in-model heads c)))
       (either-found _ _ b e))
       (λ (fine, e).
       let (heads-fine, shape) = neither (headsFault m t) _ fine in
@@ -121,14 +164,14 @@ module _ (m t : List ℕ) where
       let right = right-model m (map-eq-none-iff model _ .0 shape) in
       blame-found trace _ b e
       (λ f e.
-      found-in (trace-cause m t (starts-byte t (heads .trace)) f e) (λ k bytes c. Cause.in-trace heads right c)))
+      found-in (trace-cause m t (starts-byte _ t (heads .trace)) f e) (λ k bytes c. Cause.in-trace heads right c)))
       (either-found _ _ b e)
 
 -- ---- the numbers
 
 pub model-range : {m : List ℕ} {k : ℕ} {bytes : List ℕ} → ModelCause m k bytes → (4 ≤ k) × (k ≤ 7)
-model-range (ModelCause.unfit r before h) = omega arith
-model-range (ModelCause.wrong r before fit n there earlier w least) = wrong-range r _ _ _ _ w
+model-range (ModelCause.unfit r in-model before h) = omega arith
+model-range (ModelCause.wrong r in-model before fit n there earlier w least) = wrong-range r _ _ _ _ w
 model-range (ModelCause.after right h) = omega arith
 
 -- The number of a cause is one of 2 to 9, and never 8.
@@ -151,14 +194,36 @@ cause-range (Cause.in-trace h r c) = trace-range c
     trace-range (TraceCause.goal r h l s w) = (omega arith, omega arith, λ e. omega arith)
     trace-range (TraceCause.step r h g i l b n s w) = (omega arith, omega arith, λ e. omega arith)
 
--- The number of a fault of a model by itself is one of 2 to 7.
-pub model-fault-range : (m : List ℕ) (f : Fault) → modelFault m ≡ some f → (2 ≤ f .number) × (f .number ≤ 7)
+-- ---- a model by itself
+
+-- Its fault is its size, its version, or a cause of 4 to 7.
+pub alone-cause : (m : List ℕ) (C : ℕ → Type 0) → (65536 < length m → C 2)
+    → (length m ≤ 65536 → (ModelStarts m → ⊥) → C 3)
+    → ((k : ℕ) (bytes : List ℕ) → length m ≤ 65536 → ModelStarts m → ModelCause m k bytes → C k)
+    → (f : Fault) → modelFault m ≡ some f → C (f .number)
 unfolding modelFault
-model-fault-range m f e =
-    ⊎-elim (λ e. long-cause modelBytes m (λ k _. (2 ≤ k) × (k ≤ 7)) f e (λ _. omega arith) .cause)
-    (λ (_, e). ⊎-elim (λ e. version-cause m (λ k _. (2 ≤ k) × (k ≤ 7)) f e (λ _. omega arith) .cause)
-    (λ (fine, e). omega (arith, model-range (model-cause m (starts-byte m (starts m fine)) f e .cause)))
-    (either-found (wrongVersion m) _ f e)) (either-found (tooLong modelBytes m) _ f e)
+alone-cause m C long version wrong f e =
+    ⊎-elim (λ e. long-cause modelBytes m (λ k _. C k) f e long .cause)
+    (λ (short, e).
+    let size = not-long modelBytes m short in
+    ⊎-elim (λ e. version-cause model-versions m (λ k _. C k) f e (version size) .cause)
+    (λ (known, e).
+    let first = starts model-versions m known in
+    wrong _ _ size first (model-cause m (starts-byte _ m first) f e .cause))
+    (either-found (wrongVersion modelVersion m) _ f e)) (either-found (tooLong modelBytes m) _ f e)
+
+-- The number is one of 2 to 7.
+pub model-fault-range : (m : List ℕ) (f : Fault) → modelFault m ≡ some f → (2 ≤ f .number) × (f .number ≤ 7)
+model-fault-range m =
+    alone-cause m (λ k. (2 ≤ k) × (k ≤ 7)) (λ _. omega arith) (λ _ _. omega arith)
+    (λ _ _ _ _ c. omega (arith, model-range c))
+
+-- Without a fault it has none of 4 to 7.
+pub fine-shape : (m : List ℕ) → modelFault m ≡ none → shapeFault m ≡ none
+unfolding modelFault
+fine-shape m e = neither (wrongVersion modelVersion m) _ (neither (tooLong modelBytes m) _ e .1) .1
+
+-- ---- a right pair
 
 -- A pair without a fault is right.
 pub right-pair : (m t : List ℕ) → pairFault m t ≡ none → RightPair m t

@@ -1,32 +1,35 @@
 -- A pair has no fault exactly if it is right, and its fault has a number exactly if that number's cause is there.
 use Prim.Native.Nat.{ℕ, _≤_, _<_}
-use mathlib.Core.Path.{_≡_, refl, sym, _∙_, subst}
+use mathlib.Core.Path.{_≡_, refl, sym, ap, _∙_, subst}
 use mathlib.Core.Logic.{_↔_, _⊎_, inl, inr, ⊎-elim}
 use mathlib.Core.List.{List}
 use mathlib.Core.Option.{Option, none, some}
 use native.Mathlib.Omega.{arith}
-use lib.ListN.{length}
+use lib.ListN.{length, getD}
 use Rattle.sets.proofs.Laws.{below-or-from}
 use Rattle.records.specs.declared.Fault.{Fault}
 use Rattle.sections.specs.Sections.{tooLong, wrongVersion}
 use Rattle.sections.specs.declared.Role.{Role}
+use Rattle.sections.specs.declared.Role.the-variants.{Goals}
 use Rattle.sections.proofs.Fits.{neither}
-use Rattle.files.specs.Files.{Blamed, tag, placeOfRole, traceOf, modelBytes, modelFault, pairFault}
+use Rattle.files.specs.Files.{Blamed, rolesOf, indexOf, placeOfRole, traceOf, modelBytes, modelVersion}
+use Rattle.files.specs.Files.{modelFault, pairFault}
 use Rattle.files.specs.Files.Blamed.{model, trace}
 use Rattle.files.specs.Answers.{blamedNumber}
 use Rattle.files.specs.Causes.{Fits, WrongIn, RightSection, ModelCause, RightModel, RightTrace, TraceCause}
-use Rattle.files.specs.Causes.{Starts, RightSizes, RightHeads, Cause, RightPair}
-use Rattle.files.proofs.Found.{either-found}
+use Rattle.files.specs.Causes.{There, RightBefore, ModelStarts, RightSizes, RightHeads, Cause, RightPair}
+use Rattle.files.proofs.Roles.{role-there}
 use Rattle.files.proofs.Traces.{not-long}
-use Rattle.files.proofs.ModelCauses.{right-model, model-cause, tag-role}
-use Rattle.files.proofs.Causes.{starts, starts-byte, long-cause, version-cause, pair-cause, right-pair}
+use Rattle.files.proofs.ModelCauses.{right-model}
+use Rattle.files.proofs.Causes.{model-versions, starts, pair-cause, alone-cause, right-pair}
 
 -- ---- right or not
 
 -- A right model has no cause,
 pub model-right : {m : List ℕ} {k : ℕ} {bytes : List ℕ} → RightModel m → ModelCause m k bytes → ⊥
-model-right right (ModelCause.unfit r before short) = short (right .sections r .fits)
-model-right right (ModelCause.wrong {k} r before fit n there earlier w least) = right .sections r .records n there k w
+model-right right (ModelCause.unfit r in-model before short) = short (right .sections r in-model .fits)
+model-right right (ModelCause.wrong {k} r in-model before fit n there earlier w least) =
+    right .sections r in-model .records n there k w
 model-right right (ModelCause.after sections more) = omega (arith, right .ends)
 
 -- and neither has a right pair.
@@ -56,11 +59,13 @@ one-of a b low high =
 
 module _ (m : List ℕ) where
   -- the first section that isn't right is one section
-  one-role : (r q : Role) → ((p : Role) → tag p < tag r → RightSection m p)
-      → ((p : Role) → tag p < tag q → RightSection m p)
+  one-role : (r q : Role) → There m r → There m q → RightBefore m r → RightBefore m q
       → (RightSection m r → ⊥) → (RightSection m q → ⊥) → r ≡ q
-  one-role r q before-r before-q wrong-r wrong-q =
-      tag-role r q (one-of (tag r) (tag q) (λ h. wrong-r (before-q r h)) (λ h. wrong-q (before-r q h)))
+  one-role r q there-r there-q before-r before-q wrong-r wrong-q =
+      let rs = rolesOf m in
+      let same : indexOf r rs ≡ indexOf q rs =
+      one-of (indexOf r rs) (indexOf q rs) (λ h. wrong-r (before-q r h)) (λ h. wrong-q (before-r q h)) in
+      sym (role-there rs r there-r) ∙ ap (λ i. getD rs i Goals) same ∙ role-there rs q there-q
 
   -- what is wrong first with a section that fits has one number
   one-wrong : (r : Role) {k j : ℕ} (n i : ℕ) → ((a b : ℕ) → a < n → WrongIn m r a b → ⊥)
@@ -75,27 +80,27 @@ module _ (m : List ℕ) where
       one-of k j (λ h. least-j k h w') (λ h. least-k j h v')
 
   pub model-number : {k j : ℕ} {x y : List ℕ} → ModelCause m k x → ModelCause m j y → k ≡ j
-  model-number (ModelCause.unfit r before short) (ModelCause.unfit q before-q short-q) = refl
-  model-number (ModelCause.unfit r before short) (ModelCause.after right more) = refl
-  model-number (ModelCause.after right more) (ModelCause.unfit q before short) = refl
+  model-number (ModelCause.unfit r in-r before short) (ModelCause.unfit q in-q before-q short-q) = refl
+  model-number (ModelCause.unfit r in-r before short) (ModelCause.after right more) = refl
+  model-number (ModelCause.after right more) (ModelCause.unfit q in-q before short) = refl
   model-number (ModelCause.after right more) (ModelCause.after right-q more-q) = refl
-  model-number (ModelCause.after right more) (ModelCause.wrong {k} q before fit n there earlier w least) =
-      absurd (right q .records n there k w)
-  model-number (ModelCause.wrong {k} r before fit n there earlier w least) (ModelCause.after right more) =
-      absurd (right r .records n there k w)
-  model-number (ModelCause.unfit r before short) (ModelCause.wrong {k} q before-q fit n there earlier w least) =
+  model-number (ModelCause.after right more) (ModelCause.wrong {k} q in-q before fit n there earlier w least) =
+      absurd (right q in-q .records n there k w)
+  model-number (ModelCause.wrong {k} r in-r before fit n there earlier w least) (ModelCause.after right more) =
+      absurd (right r in-r .records n there k w)
+  model-number (ModelCause.unfit r in-r before short) (ModelCause.wrong {k} q in-q before-q fit n there earlier w least) =
       let wrong : RightSection m q → ⊥ = λ right. right .records n there k w in
-      let same : r ≡ q = one-role r q before before-q (λ right. short (right .fits)) wrong in
+      let same : r ≡ q = one-role r q in-r in-q before before-q (λ right. short (right .fits)) wrong in
       absurd (subst (λ r. Fits m (placeOfRole m r) → ⊥) same short fit)
-  model-number (ModelCause.wrong {k} q before-q fit n there earlier w least) (ModelCause.unfit r before short) =
+  model-number (ModelCause.wrong {k} q in-q before-q fit n there earlier w least) (ModelCause.unfit r in-r before short) =
       let wrong : RightSection m q → ⊥ = λ right. right .records n there k w in
-      let same : r ≡ q = one-role r q before before-q (λ right. short (right .fits)) wrong in
+      let same : r ≡ q = one-role r q in-r in-q before before-q (λ right. short (right .fits)) wrong in
       absurd (subst (λ r. Fits m (placeOfRole m r) → ⊥) same short fit)
-  model-number (ModelCause.wrong {k} r before-r fit-r n there-r earlier w least)
-      (ModelCause.wrong {k = j} q before-q fit-q i there-q earlier-q v least-q) =
+  model-number (ModelCause.wrong {k} r in-r before-r fit-r n there-r earlier w least)
+      (ModelCause.wrong {k = j} q in-q before-q fit-q i there-q earlier-q v least-q) =
       let wrong-r : RightSection m r → ⊥ = λ right. right .records n there-r k w in
       let wrong-q : RightSection m q → ⊥ = λ right. right .records i there-q j v in
-      let same : r ≡ q = one-role r q before-r before-q wrong-r wrong-q in
+      let same : r ≡ q = one-role r q in-r in-q before-r before-q wrong-r wrong-q in
       one-wrong q n i (subst (λ r. (a b : ℕ) → a < n → WrongIn m r a b → ⊥) same earlier) earlier-q
       (subst (λ r. WrongIn m r n k) same w) v (subst (λ r. (b : ℕ) → b < k → WrongIn m r n b → ⊥) same least) least-q
 
@@ -191,22 +196,20 @@ module _ (m t : List ℕ) where
 
 -- ---- a model by itself
 
--- A model by itself has no fault exactly if it is not over its size, starts with 1 and is right.
-pub model-exactly : (m : List ℕ) → (modelFault m ≡ none) ↔ ((length m ≤ 65536) × Starts m × RightModel m)
+-- A model by itself has no fault exactly if it is not over its size, starts with a version and is right.
+pub model-exactly : (m : List ℕ) → (modelFault m ≡ none) ↔ ((length m ≤ 65536) × ModelStarts m × RightModel m)
 unfolding modelFault
 model-exactly m = (
   λ e.
       let (short, rest) = neither (tooLong modelBytes m) _ e in
-      let (version, shape) = neither (wrongVersion m) _ rest in
-      (not-long modelBytes m short, starts m version, right-model m shape),
+      let (version, shape) = neither (wrongVersion modelVersion m) _ rest in
+      (not-long modelBytes m short, starts model-versions m version, right-model m shape),
   λ (short, first, right). go short first right (modelFault m) refl,
 )
   where
-    go : length m ≤ 65536 → Starts m → RightModel m → (found : Option Fault) → modelFault m ≡ found
+    go : length m ≤ 65536 → ModelStarts m → RightModel m → (found : Option Fault) → modelFault m ≡ found
         → modelFault m ≡ none
     go short first right none e = e
     go short first right (some f) e =
-        absurd (⊎-elim (λ e. long-cause modelBytes m (λ _ _. ⊥) f e (λ h. omega arith) .cause)
-        (λ (_, e). ⊎-elim (λ e. version-cause m (λ _ _. ⊥) f e (λ other. other first) .cause)
-        (λ (_, e). model-right right (model-cause m (starts-byte m first) f e .cause))
-        (either-found (wrongVersion m) _ f e)) (either-found (tooLong modelBytes m) _ f e))
+        absurd
+        (alone-cause m (λ _. ⊥) (λ h. omega arith) (λ _ other. other first) (λ _ _ _ _ c. model-right right c) f e)

@@ -19,7 +19,7 @@ use Rattle.records.proofs.Sections.{rest-of, record-fits, record-rest, first-he
 use Rattle.records.proofs.Places.{place-record, place-le}
 use Rattle.sections.specs.Sections.{long, endAt, fits, payload, restFault, moved, inSection, allOf, sizes, reader}
 use Rattle.sections.specs.declared.Role.{Role}
-use Rattle.sections.specs.declared.Role.the-variants.{Sizes, Initial, Clauses, Rules, Goals}
+use Rattle.sections.specs.declared.Role.the-variants.{Sizes, Initial, Persistent, Clauses, Rules, Goals}
 use Rattle.sections.proofs.Parts.{fit-ended, ended-size, within-fits}
 use Rattle.sections.proofs.Fits.{fits-within}
 use Rattle.files.specs.Causes.{judgedRecords, Fits}
@@ -202,6 +202,7 @@ pub judged-placed : (role : Role) (bytes : List ℕ) (n : ℕ) → n < length (j
 unfolding judgedRecords
 judged-placed Sizes bytes = whole-placed bytes
 judged-placed Initial bytes = whole-placed bytes
+judged-placed Persistent bytes = whole-placed bytes
 judged-placed Clauses bytes = record-placed bytes
 judged-placed Rules bytes = record-placed bytes
 judged-placed Goals bytes = record-placed bytes
@@ -223,6 +224,7 @@ pub reader-first : (role : Role) (F : ℕ) (bytes : List ℕ)
 unfolding reader numberIn judgedRecords firstFault
 reader-first Sizes F bytes = all-first sizes bytes
 reader-first Initial F bytes = all-first (Rattle.records.specs.Records.bare F) bytes
+reader-first Persistent F bytes = all-first (Rattle.records.specs.Records.bare F) bytes
 reader-first Clauses F bytes = refl
 reader-first Rules F bytes = refl
 reader-first Goals F bytes = refl

@@ -1,21 +1,24 @@
 -- What a judged model tells the crates above: its bounds, that its facts are below F, and that there is one answer.
 use Prim.Native.Nat.{ℕ, _≤_, _<_}
-use mathlib.Core.Path.{_≡_, refl, _∙_, sym}
-use mathlib.Core.List.{List, List·Memᴰ·head, Memᴰ·of-map}
+use mathlib.Core.Path.{_≡_, refl, _∙_, sym, ap}
+use mathlib.Core.Bool.{true}
+use mathlib.Core.List.{List, [], List·Memᴰ·head, Memᴰ·of-map}
 use mathlib.Core.Option.{none}
 use native.Mathlib.Omega.{arith}
-use lib.ListN.{length, length-map}
+use lib.ListN.{length, getD, length-map}
 use Rattle.sets.specs.Sets.{_∈_}
 use Rattle.meaning.specs.Model.{Clause, Rule, Goal}
+use Rattle.records.specs.Words.{words, ascending}
 use Rattle.records.specs.Records.{records, listOf, most, judge, firstFault}
 use Rattle.lists.specs.Lists.{AllCut}
 use Rattle.records.specs.declared.Kind.the-variants as kind
 use Rattle.lists.proofs.Laws.{clause-lists, judged-count, judged-facts, judged-cut}
 use Rattle.sections.specs.Sections.{reader}
-use Rattle.sections.specs.declared.Role.the-variants.{Sizes, Initial, Clauses, Rules, Goals}
+use Rattle.sections.specs.declared.Role.the-variants.{Sizes, Initial, Persistent, Clauses, Rules, Goals}
 use Rattle.files.specs.Files.{sectionOf, factCount, clauseOf, ruleIn, goalIn, modelOf, shapeFault, modelFault}
 use Rattle.files.specs.Answers.{countsOf, judged}
 use Rattle.files.specs.declared.Judged.{Judged}
+use Rattle.files.proofs.Roles.{one-lacks, section-absent}
 use Rattle.files.proofs.Shaped.{judged-section}
 use Rattle.files.proofs.Order.{all-fine, sizes-fine, bare-fine}
 
@@ -23,6 +26,17 @@ use Rattle.files.proofs.Order.{all-fine, sizes-fine, bare-fine}
 pub model-unique : (file : List ℕ) (x y : Judged) → x ≡ judged (modelFault file) (countsOf file)
     → y ≡ judged (modelFault file) (countsOf file) → x ≡ y
 model-unique file x y p q = p ∙ sym q
+
+-- The persistent facts are the numbers in their section.
+pub persistent-in : (file : List ℕ) {bytes : List ℕ} → bytes ≡ sectionOf file Persistent
+    → words bytes ≡ modelOf file .persistent
+unfolding modelOf
+persistent-in file e = ap words e
+
+-- A model of version 1 has no persistent facts.
+pub none-persistent : (file : List ℕ) → getD file 0 0 ≡ 1 → modelOf file .persistent ≡ []
+unfolding modelOf words
+none-persistent file first = ap words (section-absent file Persistent (one-lacks file (omega arith)))
 
 -- every fact of the list is below F
 abbrev pub Below : ℕ → List ℕ → Type 0
@@ -44,6 +58,12 @@ module _ (file : List ℕ) (fine : shapeFault file ≡ none) where
   unfolding modelOf reader
   initial-below =
       bare-fine (factCount file) (sectionOf file Initial) (all-fine _ _ (judged-section file fine Initial)) .0
+
+  -- The persistent facts are strictly ascending.
+  pub persistent-ascending : ascending (words (sectionOf file Persistent)) ≡ true
+  unfolding reader
+  persistent-ascending =
+      bare-fine (factCount file) (sectionOf file Persistent) (all-fine _ _ (judged-section file fine Persistent)) .1
 
   -- No record of the clauses, of the rules and of the attack states is at fault.
   pub clauses-judged : firstFault (judge kind.Clause (factCount file)) (sectionOf file Clauses) ≡ none

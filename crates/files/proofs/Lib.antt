@@ -1,3 +1,4 @@
+pub mod Roles
 pub mod Shaped
 pub mod Answers
 pub mod Order
@@ -12,4 +13,5 @@ pub mod ModelCauses
 pub mod TraceCauses
 pub mod Causes
 pub mod Exact
+pub mod Alike
 pub mod Written

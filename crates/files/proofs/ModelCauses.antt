@@ -1,6 +1,6 @@
 -- Every fault of a model by itself has its cause (specs/Causes), and a model without a fault is right.
 use Prim.Native.Nat.{ℕ, zero, suc, _+_, _≤_, _<_}
-use mathlib.Core.Path.{_≡_, refl, sym, ap, _∙_}
+use mathlib.Core.Path.{_≡_, refl, sym, _∙_}
 use mathlib.Core.Logic.{_⊎_, inl, inr, ⊎-elim}
 use mathlib.Core.Bool.{true}
 use mathlib.Core.List.{List, [], _∷_}
@@ -14,12 +14,14 @@ use Rattle.records.specs.declared.Fault.{Fault}
 use Rattle.lists.proofs.Laws.{passed-at}
 use Rattle.sections.specs.Sections.{sectionAt, fits, inSection, leftOver, reader}
 use Rattle.sections.specs.declared.Role.{Role}
-use Rattle.sections.specs.declared.Role.the-variants.{Sizes, Initial, Clauses, Rules, Goals}
+use Rattle.sections.specs.declared.Role.the-variants.{Goals}
 use Rattle.sections.proofs.Fits.{fits-within, section-fine}
-use Rattle.files.specs.Files.{roles, tag, indexOf, placeOfRole, sectionOf, factCount, faultFrom, shapeFault}
-use Rattle.files.specs.Causes.{judgedRecords, recordIn, RightSection, ModelCause, RightModel}
+use Rattle.files.specs.Files.{rolesOf, indexOf, placeOfRole, sectionOf, factCount, faultFrom, shapeFault}
+use Rattle.files.specs.Causes.{judgedRecords, recordIn, There, RightBefore, RightSection, ModelCause}
+use Rattle.files.specs.Causes.{RightModel}
 use Rattle.files.proofs.Wrong.{numberIn, number-some, number-none}
-use Rattle.files.proofs.Shaped.{role-there, role-fits, judged-section, file-end}
+use Rattle.files.proofs.Roles.{role-there, role-at, section-there}
+use Rattle.files.proofs.Shaped.{role-fits, judged-section, file-end}
 use Rattle.files.proofs.Found.{either-found, given-found, Found, rest-found, moved-found, section-found}
 use Rattle.files.proofs.Found.{fits-is, unfit-is}
 use Rattle.files.proofs.Found.{first-at, judged-placed, reader-first}
@@ -40,20 +42,21 @@ right-section m r fit fine = record {
 -- A model without a fault is right.
 pub right-model : (m : List ℕ) → shapeFault m ≡ none → RightModel m
 right-model m fine = record {
-  sections = λ q. right-section m q (role-fits m fine q) (judged-section m fine q);
+  sections = λ q there. right-section m q (role-fits m fine q there) (judged-section m fine q);
   ends = file-end m fine;
 }
 
 -- The fault of a section whose earlier ones are right is a cause for the model.
-module _ (m : List ℕ) (r : Role) (before : (q : Role) → tag q < tag r → RightSection m q) (f : Fault) where
+module _ (m : List ℕ) (r : Role) (there : There m r) (before : RightBefore m r) (f : Fault) where
   section-cause : placeOfRole m r ≤ length m → inSection (reader r (factCount m)) m (placeOfRole m r) ≡ some f
       → Found m (ModelCause m) f
-  unfolding sectionOf
   section-cause low e =
       ⊎-elim
       (λ (short, is).
-      rest-found m (ModelCause m) (placeOfRole m r) is low (ModelCause.unfit r before (unfit-is m _ short)))
-      (λ (fit, g, found, is). moved-found m (placeOfRole m r) fit (ModelCause m) is (inside fit g found))
+      rest-found m (ModelCause m) (placeOfRole m r) is low (ModelCause.unfit r there before (unfit-is m _ short)))
+      (λ (fit, g, found, is).
+      let here = section-there m r there in
+      moved-found m (placeOfRole m r) fit (ModelCause m) is (rw here at (inside fit g (rw (← here) at found))))
       (section-found (reader r (factCount m)) m (placeOfRole m r) f e)
     where
       inside : fits m (placeOfRole m r) ≡ true → (g : Fault) → reader r (factCount m) (sectionOf m r) ≡ some g
@@ -71,7 +74,7 @@ module _ (m : List ℕ) (r : Role) (before : (q : Role) → tag q < tag r → Ri
           record {
             within = omega (arith, at .size-is, within);
             cause = rw bytes
-                (ModelCause.wrong r before (fits-is m _ fit) n (at .there)
+                (ModelCause.wrong r there before (fits-is m _ fit) n (at .there)
                 (λ i j l w. number-none r F i (recordIn m r i) (rw zero-add at (at .earlier i l)) j w)
                 wrong least);
           }
@@ -118,69 +121,47 @@ module _ (F : ℕ) (file : List ℕ) (f : Fault) where
               let same : j + suc q ≡ suc j + q = omega arith in
               rw same (clear q (omega arith))
 
--- A role's section stands where the order of roles says.
-index-tag : (r : Role) → indexOf r roles ≡ tag r
-unfolding roles indexOf tag
-index-tag Sizes = refl
-index-tag Initial = refl
-index-tag Clauses = refl
-index-tag Rules = refl
-index-tag Goals = refl
-
--- Roles of one place are one role.
-pub tag-role : (r q : Role) → tag r ≡ tag q → r ≡ q
-tag-role r q e =
-    let same : indexOf r roles ≡ indexOf q roles = index-tag r ∙ e ∙ sym (index-tag q) in
-    sym (role-there r .1) ∙ ap (λ i. getD roles i Goals) same ∙ role-there q .1
-
-role-at : (i : ℕ) → i < length roles → indexOf (getD roles i Goals) roles ≡ i
-unfolding roles indexOf tag
-role-at zero h = refl
-role-at (suc zero) h = refl
-role-at (suc (suc zero)) h = refl
-role-at (suc (suc (suc zero))) h = refl
-role-at (suc (suc (suc (suc zero)))) h = refl
-role-at (suc (suc (suc (suc (suc i))))) h = absurd (omega arith)
-
 -- Where the sections so far have no fault, the next one starts within the file.
-reached : (m : List ℕ) (f : Fault) → 1 ≤ length m → (i : ℕ) → Clear (factCount m) m f roles 0 i
+reached : (m : List ℕ) (f : Fault) → 1 ≤ length m → (i : ℕ) → Clear (factCount m) m f (rolesOf m) 0 i
     → sectionAt m i ≤ length m
 unfolding sectionAt
 reached m f some-byte zero clear = some-byte
 reached m f some-byte (suc i) clear =
     let fine = rw zero-add at (clear i (omega arith)) in
-    let (fit, _) = section-fine (reader (getD roles i Goals) (factCount m)) m (sectionAt m i) fine in
+    let (fit, _) = section-fine (reader (getD (rolesOf m) i Goals) (factCount m)) m (sectionAt m i) fine in
     fits-within m (sectionAt m i) fit .1
 
 -- The fault of a model that has a byte has its cause.
 pub model-cause : (m : List ℕ) → 1 ≤ length m → (f : Fault) → shapeFault m ≡ some f → Found m (ModelCause m) f
-unfolding shapeFault placeOfRole leftOver
+unfolding shapeFault placeOfRole leftOver rolesOf
 model-cause m some-byte f e = ⊎-elim there left (s .here)
   where
-    s : Stop (factCount m) m f roles 0
-    s = stops (factCount m) m f roles 0 e
+    rs : List Role
+    rs = rolesOf m
+
+    s : Stop (factCount m) m f rs 0
+    s = stops (factCount m) m f rs 0 e
 
     -- a section before the fault is right
-    right : (q : Role) → tag q < s .index → RightSection m q
-    right q l =
-        let is : getD roles (indexOf q roles) Goals ≡ q = role-there q .1 in
-        let fine = rw (zero-add, is) at (s .clear (indexOf q roles) (rw (index-tag q) l)) in
+    right : (q : Role) → indexOf q rs < s .index → There m q → RightSection m q
+    right q l there-q =
+        let fine = rw (zero-add, role-there rs q there-q) at (s .clear (indexOf q rs) l) in
         let (fit, none-found) = section-fine (reader q (factCount m)) m (placeOfRole m q) fine in
-        right-section m q fit none-found
+        right-section m q fit (rw (section-there m q there-q) none-found)
 
-    there : (s .index < length roles)
-        × (inSection (reader (getD roles (s .index) Goals) (factCount m)) m (sectionAt m (0 + s .index)) ≡ some f)
+    there : (s .index < length rs)
+        × (inSection (reader (getD rs (s .index) Goals) (factCount m)) m (sectionAt m (0 + s .index)) ≡ some f)
         → Found m (ModelCause m) f
     there (l, found) =
-        let r = getD roles (s .index) Goals in
-        let is : indexOf r roles ≡ s .index = role-at (s .index) l in
+        let r = getD rs (s .index) Goals in
+        let is : indexOf r rs ≡ s .index = role-at (getD m 0 0) (s .index) l in
         let place : placeOfRole m r ≡ sectionAt m (s .index) = rw is in
-        section-cause m r (λ q h. right q (omega (arith, index-tag r))) f
+        section-cause m r (omega arith) (λ q h. right q (omega arith) (omega arith)) f
         (rw place (reached m f some-byte (s .index) (s .clear))) (rw place (rw zero-add at found))
 
-    left : (s .index ≡ length roles) × (leftOver m (sectionAt m (0 + s .index)) ≡ some f) → Found m (ModelCause m) f
+    left : (s .index ≡ length rs) × (leftOver m (sectionAt m (0 + s .index)) ≡ some f) → Found m (ModelCause m) f
     left (l, found) =
         let (more, is) = given-found _ _ f (rw (zero-add, l) at found) in
-        let less : sectionAt m (length roles) < length m = ltb-true _ _ more in
-        rest-found m (ModelCause m) (sectionAt m (length roles)) is (omega arith)
-        (ModelCause.after (λ q. right q (omega (arith, role-there q .0, index-tag q))) less)
+        let less : sectionAt m (length rs) < length m = ltb-true _ _ more in
+        rest-found m (ModelCause m) (sectionAt m (length rs)) is (omega arith)
+        (ModelCause.after (λ q there-q. right q (omega arith) there-q) less)

@@ -9,15 +9,16 @@ use lib.ListN.{length, take, drop, getD, length-drop, length-map}
 use lib.Seq.{getD-take, length-take-le}
 use Rattle.records.specs.Words.{word, words}
 use Rattle.records.specs.Records.{records, placeOf}
-use Rattle.records.proofs.Words.{words-two, length-words}
+use Rattle.records.proofs.Words.{words-index, words-two, length-words}
 use Rattle.sections.specs.Sections.{sectionAt}
 use Rattle.sections.specs.declared.Role.the-variants.{Goals}
 use Rattle.sections.proofs.Parts.{fit-ended, ended-size}
 use Rattle.files.specs.Files.{placeOfRole, sectionOf, modelOf, entriesOf, traceOf, pairFault}
 use Rattle.files.specs.Answers.{bytesAt, partOf, entryPart, goalPart}
 use Rattle.files.proofs.Found.{inner, record-placed}
+use Rattle.files.proofs.Roles.{always, section-there}
 use Rattle.files.proofs.Shaped.{role-ends}
-use Rattle.files.proofs.Traces.{words-index, fine-pair, trace-fits, trace-length, trace-goal-known}
+use Rattle.files.proofs.Traces.{fine-pair, trace-fits, trace-length, trace-goal-known}
 
 -- The two bytes at a number's place are that number.
 pub entry-word : (bytes : List ℕ) (i : ℕ) → i < length (words bytes)
@@ -28,6 +29,11 @@ entry-word bytes i there =
       length-take-le 2 at (rw length-drop (omega (arith, length-words bytes))),
       rw (getD-take 2 at 0 0 (lit< tt), getD-take 2 at 1 0 (lit< tt)) (sym (words-index bytes i there)),
     )
+
+-- The bytes at a place within the attack states are those at that place of the model.
+goal-bytes : (m : List ℕ) (start size : ℕ) → start + size ≤ length (sectionOf m Goals)
+    → take size (drop (placeOfRole m Goals + 4 + start) m) ≡ take size (drop start (sectionOf m Goals))
+goal-bytes m = rw (section-there m Goals (always m .goals)) (inner m (placeOfRole m Goals))
 
 module _ (m t : List ℕ) (fine : pairFault m t ≡ none) where
   -- A step's entry is its rule number, two bytes of the trace.
@@ -51,7 +57,7 @@ module _ (m t : List ℕ) (fine : pairFault m t ≡ none) where
   -- The attack state's part is its record.
   pub goal-named : (goalPart m (traceOf t .goal) .start + goalPart m (traceOf t .goal) .size ≤ length m)
       × (partOf m t (goalPart m (traceOf t .goal)) ≡ getD (records (sectionOf m Goals)) (traceOf t .goal) [])
-  unfolding goalPart partOf bytesAt sectionOf modelOf
+  unfolding goalPart partOf bytesAt modelOf
   goal-named =
       let known = fine-pair m t fine in
       let section = sectionOf m Goals in
@@ -59,4 +65,4 @@ module _ (m t : List ℕ) (fine : pairFault m t ≡ none) where
       rw length-map at (trace-goal-known _ _ t (known .trace)) in
       let (is, within) = record-placed section (traceOf t .goal) there in
       let place = placeOf (traceOf t .goal) (records section) in
-      (omega (arith, role-ends m (known .shape) Goals), inner m (placeOfRole m Goals) place _ within ∙ is)
+      (omega (arith, role-ends m (known .shape) Goals (always m .goals)), goal-bytes m place _ within ∙ is)

@@ -1,6 +1,6 @@
 -- Laws on judging a model's sections in order: the first of them that is at fault, what is counted on the way, and what
 -- the sizes and bare numbers are that have no fault.
-use Prim.Native.Nat.{ℕ, suc, _+_, _-_, _≤_, _<_}
+use Prim.Native.Nat.{ℕ, suc, _+_, _≤_, _<_}
 use mathlib.Core.Path.{_≡_, refl, _∙_, sym, ap}
 use mathlib.Core.Bool.{true, false, not, cond}
 use mathlib.Core.List.{List, _∷_}
@@ -14,28 +14,30 @@ use borrow.Author.Tests.{lt-ltb, le-ltb, leb-false, ltb-false, eqb-true, not-fal
 use Rattle.sets.specs.Sets.{any, _∈_}
 use Rattle.sets.proofs.Laws.{is-false, fails, any-intro}
 use Rattle.records.specs.Words.{word, words, odd, ascending}
-use Rattle.records.specs.Records.{given, _orElse_, bare}
+use Rattle.records.specs.Records.{given, _orElse_, records, bare}
 use Rattle.records.specs.declared.Fault.{Fault}
 use Rattle.sections.specs.Sections.{endAt, fits, sectionAt, payload, inSection, restFault, leftOver, allOf, sizes}
 use Rattle.sections.specs.Sections.{reader, entries}
 use Rattle.sections.specs.Answers.{passed}
 use Rattle.sections.specs.declared.Passed.{Passed}
-use Rattle.sections.specs.declared.Role.the-variants.{Sizes, Goals}
+use Rattle.sections.specs.declared.Role.{Role}
+use Rattle.sections.specs.declared.Role.the-variants.{Sizes, Clauses, Rules, Goals}
 use Rattle.sections.proofs.Fits.{neither, not-given, section-fine}
 use Rattle.sections.proofs.Parts.{fit-end, ended-size}
 use Rattle.sections.proofs.Answers.{passed-to, passed-fault, or-first, or-next}
-use Rattle.files.specs.Files.{roles, tag, indexOf, placeOfRole, sectionOf, factCount, clausesIn, modelOf}
+use Rattle.files.specs.Files.{roles, rolesOf, tag, indexOf, placeOfRole, factCount, clausesIn, modelOf}
 use Rattle.files.specs.Files.{faultFrom, shapeFault}
 use Rattle.files.specs.Answers.{countsOf, noted, notedFrom}
 use Rattle.files.specs.declared.Counts.{Counts}
+use Rattle.files.proofs.Roles.{by-version, always, section-there}
 
 -- ---- the sections in order
 
 -- Judging with F facts has come to section i, at a place, with counts: the model's first fault and its counts are those
 -- from here on.
 pub record Onward (file : List ℕ) (F i at : ℕ) (n : Counts) : Type 0 where
-  pub fault : shapeFault file ≡ faultFrom (drop i roles) F file at
-  pub counts : countsOf file ≡ notedFrom (drop i roles) file at n
+  pub fault : shapeFault file ≡ faultFrom (drop i (rolesOf file)) F file at
+  pub counts : countsOf file ≡ notedFrom (drop i (rolesOf file)) file at n
 
 module _ (file : List ℕ) (F : ℕ) where
   -- The sizes are judged without F; so an F that is the model's where they are fine finds the same first fault.
@@ -45,29 +47,51 @@ module _ (file : List ℕ) (F : ℕ) where
   by-facts none rest told = ap rest (sym (told refl))
   by-facts (some f) rest told = refl
 
-  start-counts : countsOf file ≡ notedFrom roles file 1 (record { clauses = 0; rules = 0; goals = 0 })
-  unfolding roles sectionAt countsOf notedFrom noted entries modelOf clausesIn sectionOf placeOfRole indexOf tag
-  start-counts = rw (length-map, length-map, length-map)
+  -- the counts by the places of sections of these roles
+  abbrev counted : List Role → Counts
+  counted rs =
+      let count : Role → ℕ = λ r. length (records (payload file (sectionAt file (indexOf r rs)))) in
+      record { clauses = count Clauses; rules = count Rules; goals = count Goals }
+
+  counts-placed : countsOf file ≡ counted (rolesOf file)
+  unfolding countsOf modelOf clausesIn placeOfRole
+  counts-placed =
+      let there = always file in
+      rw (
+        length-map,
+        length-map,
+        length-map,
+        section-there file Clauses (there .clauses),
+        section-there file Rules (there .rules),
+        section-there file Goals (there .goals),
+      )
+
+  start-counts : countsOf file ≡ notedFrom (rolesOf file) file 1 (record { clauses = 0; rules = 0; goals = 0 })
+  unfolding rolesOf sectionAt notedFrom noted entries indexOf tag
+  start-counts =
+      counts-placed
+      ∙ by-version (λ rs. counted rs ≡ notedFrom rs file 1 (record { clauses = 0; rules = 0; goals = 0 })) refl refl
+      (getD file 0 0)
 
   -- It starts with the sizes.
   pub onward-start : (inSection (reader Sizes F) file 1 ≡ none → F ≡ factCount file)
       → Onward file F 0 1 (record { clauses = 0; rules = 0; goals = 0 })
-  unfolding shapeFault faultFrom roles sectionAt reader inSection
+  unfolding shapeFault faultFrom rolesOf roles sectionAt reader inSection
   onward-start told = record {
-    fault = by-facts (inSection (reader Sizes F) file 1) (λ k. faultFrom (drop 1 roles) k file (endAt file 1)) told;
+    fault = by-facts (inSection (reader Sizes F) file 1) (λ k. faultFrom (drop 1 (rolesOf file)) k file (endAt file 1)) told;
     counts = start-counts;
   }
 
   module _ {i at : ℕ} {n : Counts} (on : Onward file F i at n) where
-    module _ {r : Passed} (h : i < length roles)
-        (is : r ≡ passed (inSection (reader (getD roles i Goals) F) file at) (endAt file at)
-        (entries (getD roles i Goals) (payload file at))) where
-      here : drop i roles ≡ getD roles i Goals ∷ drop (suc i) roles
-      here = drop-cons roles i Goals h
+    module _ {r : Passed} (h : i < length (rolesOf file))
+        (is : r ≡ passed (inSection (reader (getD (rolesOf file) i Goals) F) file at) (endAt file at)
+        (entries (getD (rolesOf file) i Goals) (payload file at))) where
+      here : drop i (rolesOf file) ≡ getD (rolesOf file) i Goals ∷ drop (suc i) (rolesOf file)
+      here = drop-cons (rolesOf file) i Goals h
 
       -- The section is fine: it comes to the next one.
       pub onward-next : {end count : ℕ} → r ≡ Passed.To end count
-          → Onward file F (i + 1) end (noted n (getD roles i Goals) count)
+          → Onward file F (i + 1) end (noted n (getD (rolesOf file) i Goals) count)
       unfolding faultFrom notedFrom
       onward-next told =
           let (fine, ends, counts) = passed-to _ _ _ _ _ is told in
@@ -81,18 +105,18 @@ module _ (file : List ℕ) (F : ℕ) where
       unfolding faultFrom
       onward-fault told = on .fault ∙ rw here (or-first _ _ _ (passed-fault _ _ _ _ is told))
 
-    module _ (h : length roles ≤ i) where
+    module _ (h : length (rolesOf file) ≤ i) where
       -- After the last section bytes are left over.
       pub onward-left : at < length file → shapeFault file ≡ some (restFault file at)
       unfolding faultFrom leftOver
-      onward-left more = on .fault ∙ rw (drop-of-length-le roles h, lt-ltb _ _ more)
+      onward-left more = on .fault ∙ rw (drop-of-length-le (rolesOf file) h, lt-ltb _ _ more)
 
       -- None are: nothing is at fault, and the counts are the model's.
       pub onward-end : length file ≤ at → (shapeFault file ≡ none) × (n ≡ countsOf file)
       unfolding faultFrom notedFrom leftOver
       onward-end done = (
-        on .fault ∙ rw (drop-of-length-le roles h, le-ltb _ _ done),
-        sym (on .counts ∙ rw (drop-of-length-le roles h)),
+        on .fault ∙ rw (drop-of-length-le (rolesOf file) h, le-ltb _ _ done),
+        sym (on .counts ∙ rw (drop-of-length-le (rolesOf file) h)),
       )
 
 -- ---- the sizes and bare numbers

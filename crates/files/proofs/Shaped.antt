@@ -1,20 +1,23 @@
 -- What a model is that was judged for 4 to 7: each section's length fits, each section's reader finds nothing, and
 -- nothing stands after the last section.
 use Prim.Native.Nat.{ℕ, zero, suc, _+_, _≤_, _<_}
-use mathlib.Core.Path.{_≡_, refl}
-use mathlib.Core.Bool.{true}
+use mathlib.Core.Path.{_≡_}
+use mathlib.Core.Bool.{true, false}
 use mathlib.Core.List.{List, [], _∷_}
 use mathlib.Core.Option.{none}
 use native.Mathlib.Nat.{add-zero, zero-add, not-suc-le-zero, le-of-suc-le-suc}
 use native.Mathlib.Omega.{arith}
-use lib.Dec.{lit<}
+use borrow.Author.Tests.{ltb-false}
 use lib.ListN.{length, getD}
 use Rattle.sections.specs.Sections.{sectionAt, fits, payload, inSection, reader}
 use Rattle.sections.specs.declared.Role.{Role}
-use Rattle.sections.specs.declared.Role.the-variants.{Sizes, Initial, Clauses, Rules, Goals}
+use Rattle.sections.specs.declared.Role.the-variants.{Persistent, Goals}
 use Rattle.sections.proofs.Fits.{neither, nothing-left, section-fine}
 use Rattle.sections.proofs.Parts.{fit-ended, ended-size}
-use Rattle.files.specs.Files.{roles, tag, indexOf, placeOfRole, sectionOf, factCount, faultFrom, shapeFault}
+use Rattle.files.specs.Files.{rolesOf, indexOf, has, placeOfRole, sectionOf, factCount, faultFrom, shapeFault}
+use Rattle.files.specs.Causes.{There}
+use Rattle.files.proofs.Roles.{absent-role, index-within, role-there, section-there, section-absent}
+use Rattle.files.proofs.Roles.{there-or-absent}
 
 -- ---- sections without a fault, from section j on
 
@@ -46,44 +49,48 @@ module _ (F : ℕ) (file : List ℕ) where
 
 -- ---- a judged model
 
--- Every role has its section.
-pub role-there : (r : Role) → (indexOf r roles < length roles) × (getD roles (indexOf r roles) Goals ≡ r)
-unfolding roles indexOf tag
-role-there Sizes = (lit< tt, refl)
-role-there Initial = (lit< tt, refl)
-role-there Clauses = (lit< tt, refl)
-role-there Rules = (lit< tt, refl)
-role-there Goals = (lit< tt, refl)
-
-pub role-index : (r : Role) → indexOf r roles < length roles
-role-index r = role-there r .0
+-- Nothing is found in the section that a model's version lacks.
+absent-fine : (F : ℕ) (r : Role) → r ≡ Persistent → reader r F [] ≡ none
+unfolding reader
+absent-fine F r e = rw (e, reader)
 
 module _ (file : List ℕ) (fine : shapeFault file ≡ none) where
   -- Each of its sections fits, by number,
-  pub section-fits : (i : ℕ) → i < length roles → fits file (sectionAt file i) ≡ true
+  pub section-fits : (i : ℕ) → i < length (rolesOf file) → fits file (sectionAt file i) ≡ true
   unfolding shapeFault
-  section-fits i h = rw zero-add at (fine-at (factCount file) file roles 0 fine i h .0)
+  section-fits i h = rw zero-add at (fine-at (factCount file) file (rolesOf file) 0 fine i h .0)
 
   -- and by role.
-  pub role-fits : (r : Role) → fits file (placeOfRole file r) ≡ true
+  pub role-fits : (r : Role) → There file r → fits file (placeOfRole file r) ≡ true
   unfolding placeOfRole
-  role-fits r = section-fits (indexOf r roles) (role-there r .0)
+  role-fits r there = section-fits (indexOf r (rolesOf file)) there
 
   -- In each its reader finds nothing.
   pub judged-section : (r : Role) → reader r (factCount file) (sectionOf file r) ≡ none
-  unfolding shapeFault placeOfRole sectionOf
+  unfolding shapeFault placeOfRole
   judged-section r =
-      let there = role-there r in
-      rw (there .1, zero-add) at (fine-at (factCount file) file roles 0 fine (indexOf r roles) (there .0) .1)
+      let rs = rolesOf file in
+      there-or-absent file r
+      (λ there.
+      let found = fine-at (factCount file) file rs 0 fine (indexOf r rs) there .1 in
+      rw (section-there file r there) (rw (role-there rs r there, zero-add) at found))
+      (λ absent. rw (section-absent file r absent) (absent-fine (factCount file) r (absent-role file r absent)))
 
   -- Nothing stands after the last.
-  pub file-end : length file ≤ sectionAt file (length roles)
+  pub file-end : length file ≤ sectionAt file (length (rolesOf file))
   unfolding shapeFault
-  file-end = fine-end (factCount file) file roles 0 fine
+  file-end = rw zero-add at (fine-end (factCount file) file (rolesOf file) 0 fine)
+
+  -- So the place of a section that the version lacks is the file's end.
+  pub absent-end : (r : Role) → has file r ≡ false → length file ≤ placeOfRole file r
+  unfolding placeOfRole has
+  absent-end r absent =
+      let past : length (rolesOf file) ≤ indexOf r (rolesOf file) = ltb-false _ _ absent in
+      let last : indexOf r (rolesOf file) ≡ length (rolesOf file) = omega (arith, index-within r (rolesOf file)) in
+      rw last file-end
 
   -- Each ends within the file.
-  pub role-ends : (r : Role) → placeOfRole file r + 4 + length (sectionOf file r) ≤ length file
-  unfolding sectionOf
-  role-ends r =
-      let end = fit-ended file (placeOfRole file r) (role-fits r) in
-      omega (arith, end, ended-size file (placeOfRole file r) _ end)
+  pub role-ends : (r : Role) → There file r → placeOfRole file r + 4 + length (sectionOf file r) ≤ length file
+  role-ends r there =
+      let end = fit-ended file (placeOfRole file r) (role-fits r there) in
+      rw (section-there file r there) (omega (arith, end, ended-size file (placeOfRole file r) _ end))

@@ -1,10 +1,9 @@
 -- What a trace and a pair are in which nothing is at fault: for the checker above.
-use Prim.Native.Nat.{ℕ, zero, suc, _+_, _*_, _%_, _≤_, _<_}
+use Prim.Native.Nat.{ℕ, suc, _+_, _*_, _%_, _≤_, _<_}
 use mathlib.Core.Path.{_≡_, refl, ap, _∙_}
 use mathlib.Core.Bool.{Bool, true, false}
 use mathlib.Core.List.{List, [], _∷_}
 use mathlib.Core.Option.{Option, none, Option·map, map-eq-none-iff}
-use native.Mathlib.Nat.{not-suc-le-zero, le-of-suc-le-suc}
 use native.Mathlib.Omega.{arith}
 use lib.Dec.{T, ltb}
 use lib.ListN.{length, drop, getD, length-drop}
@@ -14,29 +13,17 @@ use Rattle.sets.specs.Sets.{every, first}
 use Rattle.sets.proofs.Laws.{both, passes, first-before}
 use Rattle.meaning.specs.Run.{named}
 use Rattle.records.specs.Words.{word, words, odd}
-use Rattle.records.specs.Records.{_orElse_}
 use Rattle.records.specs.declared.Fault.{Fault}
-use Rattle.records.proofs.Words.{words-two, length-words, even-length}
+use Rattle.records.specs.Records.{_orElse_}
+use Rattle.records.proofs.Words.{words-index, words-two, length-words, even-length}
 use Rattle.records.proofs.Judging.{or-clear}
 use Rattle.sections.specs.Sections.{long, sectionAt, fits, inSection, leftOver, tooLong, wrongVersion}
 use Rattle.files.specs.Files.{Blamed, entriesOf, modelOf, traceOf, shapeFault, modelBytes, traceBytes, traceShape}
+use Rattle.files.specs.Files.{modelVersion, traceVersion}
 use Rattle.files.specs.Files.{traceCount, lacks, traceNames, traceFault, headsFault, filesFault, pairFault}
 use Rattle.files.specs.Files.Blamed.{model, trace}
 use Rattle.sections.proofs.Fits.{neither, not-given, section-fine}
 use Rattle.files.proofs.Order.{all-fine}
-
--- ---- numbers in bytes
-
--- Number i of some bytes is the two bytes at its place.
-pub words-index : (bytes : List ℕ) (i : ℕ) → i < length (words bytes)
-    → getD (words bytes) i 0 ≡ word (drop (2 * i) bytes)
-unfolding words word
-words-index [] i h = absurd (not-suc-le-zero h)
-words-index (a ∷ []) i h = absurd (not-suc-le-zero h)
-words-index (a ∷ b ∷ rest) zero h = refl
-words-index (a ∷ b ∷ rest) (suc i) h =
-    let twice : 2 * suc i ≡ suc (suc (2 * i)) = omega arith in
-    rw twice (words-index rest i (le-of-suc-le-suc h))
 
 -- A list passes a test as a whole where it does so at each index.
 every-at : (p : ℕ → Bool) (xs : List ℕ) → ((i : ℕ) → i < length xs → p (getD xs i 0) ≡ true) → T (every p xs)
@@ -135,8 +122,8 @@ module _ (goals rules : ℕ) (t : List ℕ) (fine : traceFault goals rules t ≡
 pub record FinePair (m t : List ℕ) : Type 0 where
   pub model-size : length m ≤ 65536
   pub trace-size : length t ≤ 4096
-  pub model-version : wrongVersion m ≡ none
-  pub trace-version : wrongVersion t ≡ none
+  pub model-version : wrongVersion modelVersion m ≡ none
+  pub trace-version : wrongVersion traceVersion t ≡ none
   pub shape : shapeFault m ≡ none
   pub trace : traceFault (length (modelOf m .goals)) (length (modelOf m .rules)) t ≡ none
 
@@ -160,7 +147,7 @@ fine-pair m t e =
     let (heads, shape) = neither (headsFault m t) _ files in
     let (e₁, r₁) = file-then model (tooLong modelBytes m) _ heads in
     let (e₂, r₂) = file-then trace (tooLong traceBytes t) _ r₁ in
-    let (e₃, r₃) = file-then model (wrongVersion m) _ r₂ in
+    let (e₃, r₃) = file-then model (wrongVersion modelVersion m) _ r₂ in
     record {
       model-size = not-long modelBytes m e₁;
       trace-size = not-long traceBytes t e₂;

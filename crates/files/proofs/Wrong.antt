@@ -20,7 +20,7 @@ use Rattle.records.specs.declared.Kind.the-variants as kind
 use Rattle.records.proofs.Words.{odd-length, even-length}
 use Rattle.sections.specs.Sections.{sizes}
 use Rattle.sections.specs.declared.Role.{Role}
-use Rattle.sections.specs.declared.Role.the-variants.{Sizes, Initial, Clauses, Rules, Goals}
+use Rattle.sections.specs.declared.Role.the-variants.{Sizes, Initial, Persistent, Clauses, Rules, Goals}
 use Rattle.files.specs.Causes.{Unordered, WrongSizes, WrongFacts, WrongRecord, Wrong}
 
 -- ---- strictly ascending
@@ -220,6 +220,7 @@ module _ (K : Kind) (F n : ℕ) (r : List ℕ) where
 unfoldable pub numberIn : Role → ℕ → ℕ → List ℕ → Option ℕ
 numberIn Sizes F = λ n r. sizes r
 numberIn Initial F = λ n r. bare F r
+numberIn Persistent F = λ n r. bare F r
 numberIn Clauses F = judge kind.Clause F
 numberIn Rules F = judge kind.Rule F
 numberIn Goals F = judge kind.Goal F
@@ -229,6 +230,7 @@ number-least : (role : Role) (F n : ℕ) (r : List ℕ) → Least (numberIn role
 unfolding numberIn most longest
 number-least Sizes F n r = sizes-least r
 number-least Initial F n r = facts-least F r
+number-least Persistent F n r = facts-least F r
 number-least Clauses F n r = judge-least kind.Clause F n r
 number-least Rules F n r = judge-least kind.Rule F n r
 number-least Goals F n r = judge-least kind.Goal F n r
@@ -246,6 +248,7 @@ number-none role F n r e = subst (λ x. Least x (Wrong role F n r)) e (number-le
 pub wrong-range : (role : Role) (F n : ℕ) (r : List ℕ) (k : ℕ) → Wrong role F n r k → (4 ≤ k) × (k ≤ 7)
 wrong-range Sizes F n r k w = omega (arith, sizes-range w)
 wrong-range Initial F n r k w = omega (arith, facts-range w)
+wrong-range Persistent F n r k w = omega (arith, facts-range w)
 wrong-range Clauses F n r k w = record-range _ F n r w
 wrong-range Rules F n r k w = record-range _ F n r w
 wrong-range Goals F n r k w = record-range _ F n r w

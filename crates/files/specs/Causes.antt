@@ -14,8 +14,8 @@ use Rattle.records.specs.declared.Kind.{Kind}
 use Rattle.records.specs.declared.Kind.the-variants as kind
 use Rattle.sections.specs.Sections.{long, endAt, sectionAt}
 use Rattle.sections.specs.declared.Role.{Role}
-use Rattle.sections.specs.declared.Role.the-variants.{Sizes, Initial, Clauses, Rules, Goals}
-use Rattle.files.specs.Files.{roles, tag, placeOfRole, sectionOf, factCount, entriesOf, modelOf, traceOf}
+use Rattle.sections.specs.declared.Role.the-variants.{Sizes, Initial, Persistent, Clauses, Rules, Goals}
+use Rattle.files.specs.Files.{rolesOf, indexOf, placeOfRole, sectionOf, factCount, entriesOf, modelOf, traceOf}
 
 -- ---- what can be wrong with a record, by number
 
@@ -28,7 +28,8 @@ pub data WrongSizes (bytes : List ℕ) : ℕ → Type 0 where
   shape : (length bytes ≡ 2 → ⊥) → WrongSizes bytes 4
   count : 4096 < word bytes → WrongSizes bytes 5
 
--- "initial facts: 2 bytes each", "a fact number of F or more", "strictly ascending"
+-- "initial facts: 2 bytes each", "a fact number of F or more", "strictly ascending"; persistent facts are "judged like
+-- the initial facts" (document 02, wish 2)
 pub data WrongFacts (F : ℕ) (bytes : List ℕ) : ℕ → Type 0 where
   shape : length bytes % 2 ≡ 1 → WrongFacts F bytes 4
   fact : (f : ℕ) → f ∈ words bytes → F ≤ f → WrongFacts F bytes 6
@@ -52,17 +53,19 @@ pub data WrongRecord (K : Kind) (most longest F n : ℕ) (r : List ℕ) : ℕ �
 abbrev pub Wrong : Role → ℕ → ℕ → List ℕ → ℕ → Type 0
 Wrong Sizes F n r = WrongSizes r
 Wrong Initial F n r = WrongFacts F r
+Wrong Persistent F n r = WrongFacts F r
 Wrong Clauses F n r = WrongRecord kind.Clause 4096 16 F n r
 Wrong Rules F n r = WrongRecord kind.Rule 2048 32 F n r
 Wrong Goals F n r = WrongRecord kind.Goal 64 32 F n r
 
 -- ---- the model, in file order
 
--- "Sizes and initial facts count as one record each, whose bytes are the section's."
+-- "Sizes and initial facts count as one record each, whose bytes are the section's."; so do persistent facts
 unfoldable pub judgedRecords : Role → List ℕ → List (List ℕ)
 unfolding records
 judgedRecords Sizes bytes = bytes ∷ []
 judgedRecords Initial bytes = bytes ∷ []
+judgedRecords Persistent bytes = bytes ∷ []
 judgedRecords Clauses bytes = records bytes
 judgedRecords Rules bytes = records bytes
 judgedRecords Goals bytes = records bytes
@@ -85,25 +88,33 @@ pub record RightSection (m : List ℕ) (r : Role) : Type 0 where
   pub fits : Fits m (placeOfRole m r)
   pub records : (n : ℕ) → n < length (judgedRecords r (sectionOf m r)) → (k : ℕ) → WrongIn m r n k → ⊥
 
+-- the model has a section of the role
+abbrev pub There : List ℕ → Role → Type 0
+There m r = indexOf r (rolesOf m) < length (rolesOf m)
+
+-- every section before that of the role is right
+abbrev pub RightBefore : List ℕ → Role → Type 0
+RightBefore m r = (q : Role) → indexOf q (rolesOf m) < indexOf r (rolesOf m) → RightSection m q
+
 -- where the last section of a model ends
 abbrev pub modelEnd : List ℕ → ℕ
-modelEnd m = sectionAt m (length roles)
+modelEnd m = sectionAt m (length (rolesOf m))
 
 -- 4 to 7 for the model, "at the first fault in file order", with the bytes at fault: "where a section's length
 -- doesn't fit: the rest of the file, from that length on"; otherwise the record, of whose faults the one with the
 -- smallest number is given; "after the last section: those bytes". A record whose length doesn't fit is the rest of
 -- its section (`record-or-rest` in proofs/Found.antt).
 pub data ModelCause (m : List ℕ) : ℕ → List ℕ → Type 0 where
-  unfit : (r : Role) → ((q : Role) → tag q < tag r → RightSection m q) → (Fits m (placeOfRole m r) → ⊥)
+  unfit : (r : Role) → There m r → RightBefore m r → (Fits m (placeOfRole m r) → ⊥)
       → ModelCause m 4 (drop (placeOfRole m r) m)
-  wrong : {k : ℕ} (r : Role) → ((q : Role) → tag q < tag r → RightSection m q) → Fits m (placeOfRole m r)
+  wrong : {k : ℕ} (r : Role) → There m r → RightBefore m r → Fits m (placeOfRole m r)
       → (n : ℕ) → n < length (judgedRecords r (sectionOf m r)) → ((i j : ℕ) → i < n → WrongIn m r i j → ⊥)
       → WrongIn m r n k → ((j : ℕ) → j < k → WrongIn m r n j → ⊥) → ModelCause m k (recordIn m r n)
-  after : ((q : Role) → RightSection m q) → modelEnd m < length m → ModelCause m 4 (drop (modelEnd m) m)
+  after : ((q : Role) → There m q → RightSection m q) → modelEnd m < length m → ModelCause m 4 (drop (modelEnd m) m)
 
 -- none of them is there
 pub record RightModel (m : List ℕ) : Type 0 where
-  pub sections : (q : Role) → RightSection m q
+  pub sections : (q : Role) → There m q → RightSection m q
   pub ends : length m ≤ modelEnd m
 
 -- ---- the trace
@@ -137,20 +148,28 @@ pub data TraceCause (m t : List ℕ) : ℕ → List ℕ → Type 0 where
 
 -- ---- the pair
 
--- "a file empty, or first byte not 1": otherwise it starts with 1
-unfoldable pub Starts : List ℕ → Type 0
-Starts file = (rest : List ℕ) × (file ≡ 1 ∷ rest)
+-- "a file empty, or first byte not 1", for a model "neither 1 nor 2" (document 02, wish 2): otherwise it starts with one
+-- of the versions
+unfoldable pub Starts : List ℕ → List ℕ → Type 0
+Starts versions file = (v : ℕ) × (v ∈ versions) × (rest : List ℕ) × (file ≡ v ∷ rest)
+
+-- the versions of a model, and those of a trace
+abbrev pub ModelStarts : List ℕ → Type 0
+ModelStarts = Starts (1 ∷ 2 ∷ [])
+
+abbrev pub TraceStarts : List ℕ → Type 0
+TraceStarts = Starts (1 ∷ [])
 
 -- neither file is over its size
 pub record RightSizes (m t : List ℕ) : Type 0 where
   pub model : length m ≤ 65536
   pub trace : length t ≤ 4096
 
--- and both are of version 1
+-- and both are of a known version
 pub record RightHeads (m t : List ℕ) : Type 0 where
   pub sizes : RightSizes m t
-  pub model : Starts m
-  pub trace : Starts t
+  pub model : ModelStarts m
+  pub trace : TraceStarts t
 
 -- the cause of a refusal: the mark of the file at fault (0 the model, 1 the trace), the number and the bytes. "2
 -- (model, then trace); 3 (model, then trace); then 4 to 7 for the model .. Then 4 for the trace .., then 5, then 9";
@@ -158,8 +177,8 @@ pub record RightHeads (m t : List ℕ) : Type 0 where
 pub data Cause (m t : List ℕ) : ℕ → ℕ → List ℕ → Type 0 where
   long-model : 65536 < length m → Cause m t 0 2 m
   long-trace : length m ≤ 65536 → 4096 < length t → Cause m t 1 2 t
-  version-model : RightSizes m t → (Starts m → ⊥) → Cause m t 0 3 (take 1 m)
-  version-trace : RightSizes m t → Starts m → (Starts t → ⊥) → Cause m t 1 3 (take 1 t)
+  version-model : RightSizes m t → (ModelStarts m → ⊥) → Cause m t 0 3 (take 1 m)
+  version-trace : RightSizes m t → ModelStarts m → (TraceStarts t → ⊥) → Cause m t 1 3 (take 1 t)
   in-model : {k : ℕ} {bytes : List ℕ} → RightHeads m t → ModelCause m k bytes → Cause m t 0 k bytes
   in-trace : {k : ℕ} {bytes : List ℕ} → RightHeads m t → RightModel m → TraceCause m t k bytes → Cause m t 1 k bytes
 

@@ -2,7 +2,7 @@
 -- (document 01, "File layouts", "Bounds", "Verdict numbers and the order").
 use Prim.Native.Nat.{ℕ, zero, suc, _+_, _*_}
 use mathlib.Core.Bool.{Bool, _||_, cond}
-use mathlib.Core.List.{List, [], _∷_, map}
+use mathlib.Core.List.{List, [], _∷_, _++_, map}
 use mathlib.Core.Option.{Option, Option·map}
 use lib.Dec.{leb, ltb, eqb}
 use lib.ListN.{length, drop, getD}
@@ -15,21 +15,33 @@ use Rattle.records.specs.declared.Kind.the-variants as kind
 use Rattle.sections.specs.Sections.{endAt, inSection, leftOver, allOf, payload, sectionAt, reader}
 use Rattle.sections.specs.Sections.{tooLong, wrongVersion}
 use Rattle.sections.specs.declared.Role.{Role}
-use Rattle.sections.specs.declared.Role.the-variants.{Sizes, Initial, Clauses, Rules, Goals}
+use Rattle.sections.specs.declared.Role.the-variants.{Sizes, Initial, Persistent, Clauses, Rules, Goals}
 
 -- ---- the sections of a model
 
--- "Model sections, in order: 1. sizes .. 2. initial facts .. 3. clauses; 4. rules; 5. attack states"
-unfoldable pub roles : List Role
-roles = Sizes ∷ Initial ∷ Clauses ∷ Rules ∷ Goals ∷ []
+-- a role that models have from a version on
+unfoldable pub since : ℕ → Role → ℕ → List Role
+since first r version = cond (leb first version) (r ∷ []) []
 
--- the role's place in that list, by which the sections' order is told
+-- "Model sections, in order: 1. sizes .. 2. initial facts .. 3. clauses; 4. rules; 5. attack states"; "Model version 2
+-- has one more section after the initial facts: the persistent facts" (document 02, wish 2)
+unfoldable pub roles : ℕ → List Role
+unfolding since
+roles version = Sizes ∷ Initial ∷ since 2 Persistent version ++ Clauses ∷ Rules ∷ Goals ∷ []
+
+-- "A file starts with a version byte": the sections that the file of a model has
+unfoldable pub rolesOf : List ℕ → List Role
+unfolding roles
+rolesOf file = roles (getD file 0 0)
+
+-- a number for each role, to tell them apart
 unfoldable pub tag : Role → ℕ
 tag Sizes = 0
 tag Initial = 1
-tag Clauses = 2
-tag Rules = 3
-tag Goals = 4
+tag Persistent = 2
+tag Clauses = 3
+tag Rules = 4
+tag Goals = 5
 
 -- how many sections stand before that of a role
 unfoldable pub indexOf : Role → List Role → ℕ
@@ -37,15 +49,20 @@ unfolding tag
 indexOf r [] = 0
 indexOf r (x ∷ xs) = cond (eqb (tag r) (tag x)) 0 (suc (indexOf r xs))
 
+-- the model's version has a section of the role
+unfoldable pub has : List ℕ → Role → Bool
+unfolding indexOf rolesOf
+has file r = ltb (indexOf r (rolesOf file)) (length (rolesOf file))
+
 -- where the length of the section of a role stands
 unfoldable pub placeOfRole : List ℕ → Role → ℕ
-unfolding sectionAt indexOf roles
-placeOfRole file r = sectionAt file (indexOf r roles)
+unfolding sectionAt indexOf rolesOf
+placeOfRole file r = sectionAt file (indexOf r (rolesOf file))
 
--- "that section's bytes and no others": what the section of a role holds
+-- "that section's bytes and no others": what the section of a role holds; nothing where the model's version has none
 unfoldable pub sectionOf : List ℕ → Role → List ℕ
-unfolding payload placeOfRole
-sectionOf file r = payload file (placeOfRole file r)
+unfolding has payload placeOfRole
+sectionOf file r = cond (has file r) (payload file (placeOfRole file r)) []
 
 -- ---- the lists that a file is
 
@@ -80,6 +97,7 @@ unfolding factCount words sectionOf records clausesIn ruleIn goalIn
 modelOf file = record {
   F = factCount file;
   initial = words (sectionOf file Initial);
+  persistent = words (sectionOf file Persistent);
   clauses = clausesIn (sectionOf file Clauses);
   rules = map ruleIn (records (sectionOf file Rules));
   goals = map goalIn (records (sectionOf file Goals));
@@ -106,8 +124,8 @@ faultFrom (r ∷ rs) F file at = inSection (reader r F) file at orElse faultFrom
 
 -- "then 4 to 7 for the model"
 unfoldable pub shapeFault : List ℕ → Option Fault
-unfolding faultFrom roles factCount sectionAt
-shapeFault file = faultFrom roles (factCount file) file (sectionAt file 0)
+unfolding faultFrom rolesOf factCount sectionAt
+shapeFault file = faultFrom (rolesOf file) (factCount file) file (sectionAt file 0)
 
 -- "Model 65,536 bytes, trace 4,096."
 abbrev pub modelBytes : ℕ
@@ -116,10 +134,17 @@ modelBytes = 65536
 abbrev pub traceBytes : ℕ
 traceBytes = 4096
 
+-- "A file starts with a version byte, 1."; "VERSION for a model means neither 1 nor 2" (document 02, wish 2)
+abbrev pub modelVersion : ℕ
+modelVersion = 2
+
+abbrev pub traceVersion : ℕ
+traceVersion = 1
+
 -- 2 to 7 in the order, for a model by itself
 unfoldable pub modelFault : List ℕ → Option Fault
 unfolding _orElse_ tooLong wrongVersion shapeFault
-modelFault file = tooLong modelBytes file orElse wrongVersion file orElse shapeFault file
+modelFault file = tooLong modelBytes file orElse wrongVersion modelVersion file orElse shapeFault file
 
 -- ---- the trace's faults, in order
 
@@ -168,8 +193,8 @@ unfolding _orElse_ tooLong wrongVersion
 headsFault m t =
     Option·map model (tooLong modelBytes m)
     orElse Option·map trace (tooLong traceBytes t)
-    orElse Option·map model (wrongVersion m)
-    orElse Option·map trace (wrongVersion t)
+    orElse Option·map model (wrongVersion modelVersion m)
+    orElse Option·map trace (wrongVersion traceVersion t)
 
 -- what comes before the trace's own numbers: "then 4 to 7 for the model". A refusal of a tool that hangs on the model
 -- comes after it.

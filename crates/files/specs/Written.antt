@@ -1,7 +1,9 @@
 -- The bytes of a file, written out from the lists that it is (document 01, "File layouts"): the layouts a second
 -- time, beside the reader's own definitions.
 use Prim.Native.Nat.{ℕ, _/_, _%_}
+use mathlib.Core.Bool.{cond}
 use mathlib.Core.List.{List, [], _∷_, _++_, flatMap}
+use lib.Dec.{leb}
 use lib.ListN.{length}
 use Rattle.meaning.specs.Model.{Clause, Rule, Goal, Model, Trace}
 
@@ -44,14 +46,21 @@ unfoldable pub sectionBytes : List ℕ → List ℕ
 unfolding twoBytes
 sectionBytes bytes = twoBytes (length bytes / 65536) ++ twoBytes (length bytes % 65536) ++ bytes
 
--- "A file starts with a version byte, 1.", "Model sections, in order: 1. sizes .. 2. initial facts .. 3. clauses; 4.
--- rules; 5. attack states: records."
-unfoldable pub writtenModel : Model → List ℕ
-unfolding sectionBytes twoBytes factBytes flatMap clauseBytes ruleBytes goalBytes
-writtenModel m =
-    1
+-- "Model version 2 has one more section" (document 02, wish 2): the sections after the initial facts that version 1
+-- lacks
+unfoldable pub laterSections : ℕ → Model → List ℕ
+unfolding sectionBytes factBytes
+laterSections version m = cond (leb 2 version) (sectionBytes (factBytes (m .persistent))) []
+
+-- "A file starts with a version byte", "Model sections, in order: 1. sizes .. 2. initial facts .. 3. clauses; 4. rules;
+-- 5. attack states: records."
+unfoldable pub writtenModel : ℕ → Model → List ℕ
+unfolding sectionBytes twoBytes factBytes flatMap laterSections clauseBytes ruleBytes goalBytes
+writtenModel version m =
+    version
     ∷ sectionBytes (twoBytes (m .F))
     ++ sectionBytes (factBytes (m .initial))
+    ++ laterSections version m
     ++ sectionBytes (flatMap clauseBytes (m .clauses))
     ++ sectionBytes (flatMap ruleBytes (m .rules))
     ++ sectionBytes (flatMap goalBytes (m .goals))

@@ -14,13 +14,14 @@ ghost use Rattle.files.specs.Answers.{goalPart};
 use super::Part;
 use super::model;
 use sections::Role;
+use sections::head;
 
 // The place of a section's length.
 fn place_of(model: &[u8], role: Role) -> usize
     requires { ⌜ shapeFault (now model) ≡ none ⌝ }
     ensures { λ r. ⌜ r ≡ placeOfRole (now (model .entry)) role ⌝ }
 {
-    let n = model::index_of(role);
+    let n = model::index_of(head::version_of(model), role);
     let mut at = 1;
     let mut i = 0;
     while i < n {
@@ -30,13 +31,16 @@ fn place_of(model: &[u8], role: Role) -> usize
     at
 }
 
-// The bytes of the section of a role.
+// The bytes of the section of a role; none where the model's version has no such section.
 pub fn section(model: &[u8], role: Role) -> &[u8]
     requires { ⌜ shapeFault (now model) ≡ none ⌝ }
     ensures { λ r. ⌜ now r ≡ sectionOf (now (model .entry)) role ⌝ }
 {
     let at = place_of(model, role);
     let end = sections::section_end(model, at);
+    if end == 0 {
+        return &model[..0];
+    }
     let start = at + 4;
     &model[start..end]
 }

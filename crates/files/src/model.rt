@@ -1,7 +1,7 @@
 // A model's faults, in document 01's order.
 ghost use mathlib.Core.Path.{_≡_};
 ghost use mathlib.Core.Option.{none};
-ghost use lib.ListN.{getD};
+ghost use lib.ListN.{length, getD};
 ghost use Rattle.sections.specs.Sections.{inSection, reader};
 ghost use Rattle.sections.specs.declared.Role.{Role};
 ghost use Rattle.files.specs.Files.{roles, indexOf, factCount, shapeFault, modelFault};
@@ -12,32 +12,59 @@ use sections::Passed;
 use sections::Role;
 use sections::head;
 
-// How many sections a model has.
-const SECTIONS: usize = 5;
-
-// The role of section i.
-fn role_at(i: usize) -> Role
-    ensures { λ r. ⌜ r ≡ getD roles i Role.Goals ⌝ }
+// How many sections a model of a version has.
+fn section_count(version: u8) -> usize
+    ensures { λ r. ⌜ r ≡ length (roles version) ⌝ }
 {
-    match i {
-        0 => Role::Sizes,
-        1 => Role::Initial,
-        2 => Role::Clauses,
-        3 => Role::Rules,
-        _ => Role::Goals,
+    if version < 2 { 5 } else { 6 }
+}
+
+// The role of section i of a model of a version.
+fn role_at(version: u8, i: usize) -> Role
+    ensures { λ r. ⌜ r ≡ getD (roles version) i Role.Goals ⌝ }
+{
+    if version < 2 {
+        match i {
+            0 => Role::Sizes,
+            1 => Role::Initial,
+            2 => Role::Clauses,
+            3 => Role::Rules,
+            _ => Role::Goals,
+        }
+    } else {
+        match i {
+            0 => Role::Sizes,
+            1 => Role::Initial,
+            2 => Role::Persistent,
+            3 => Role::Clauses,
+            4 => Role::Rules,
+            _ => Role::Goals,
+        }
     }
 }
 
-// How many sections stand before that of a role.
-pub fn index_of(role: Role) -> usize
-    ensures { λ r. ⌜ r ≡ indexOf role roles ⌝ }
+// How many sections of a model of a version stand before that of a role: all of them, where it has none.
+pub fn index_of(version: u8, role: Role) -> usize
+    ensures { λ r. ⌜ r ≡ indexOf role (roles version) ⌝ }
 {
-    match role {
-        Role::Sizes => 0,
-        Role::Initial => 1,
-        Role::Clauses => 2,
-        Role::Rules => 3,
-        Role::Goals => 4,
+    if version < 2 {
+        match role {
+            Role::Sizes => 0,
+            Role::Initial => 1,
+            Role::Persistent => 5,
+            Role::Clauses => 2,
+            Role::Rules => 3,
+            Role::Goals => 4,
+        }
+    } else {
+        match role {
+            Role::Sizes => 0,
+            Role::Initial => 1,
+            Role::Persistent => 2,
+            Role::Clauses => 3,
+            Role::Rules => 4,
+            Role::Goals => 5,
+        }
     }
 }
 
@@ -51,6 +78,7 @@ fn note(mut counts: Counts, role: Role, count: usize) -> Counts
         Role::Goals => counts.goals = count,
         Role::Sizes => {}
         Role::Initial => {}
+        Role::Persistent => {}
     }
     counts
 }
@@ -71,6 +99,8 @@ fn facts_told(model: &[u8]) -> usize
 pub fn judge_shape(model: &[u8]) -> Judged
     ensures { λ r. ⌜ r ≡ judged (shapeFault (now (model .entry))) (countsOf (now (model .entry))) ⌝ }
 {
+    let version = head::version_of(model);
+    let sections = section_count(version);
     let facts = facts_told(model);
     let mut counts = Counts {
         clauses: 0,
@@ -79,8 +109,8 @@ pub fn judge_shape(model: &[u8]) -> Judged
     };
     let mut at = 1;
     let mut i = 0;
-    while i < SECTIONS {
-        let role = role_at(i);
+    while i < sections {
+        let role = role_at(version, i);
         match sections::judge_section(model, at, role, facts) {
             Passed::Fault(fault) => return Judged::Fault(fault),
             Passed::To { end, count } => {
@@ -100,7 +130,7 @@ pub fn judge_shape(model: &[u8]) -> Judged
 pub fn judge_model(model: &[u8]) -> Judged
     ensures { λ r. ⌜ r ≡ judged (modelFault (now (model .entry))) (countsOf (now (model .entry))) ⌝ }
 {
-    let number = head::head_number(model, 65536);
+    let number = head::head_number(model, 65536, 2);
     if number == 2 {
         return Judged::Fault(head::long_fault(model));
     }

@@ -3,10 +3,11 @@ use Prim.Native.Nat.{ℕ, suc, _+_, _<_}
 use native.Mathlib.Nat.{zero-add, add-assoc}
 use native.Mathlib.Omega.{arith}
 use mathlib.Core.Path.{_≡_, refl, _∙_, ap}
-use mathlib.Core.Logic.{inl, inr}
-use mathlib.Core.Bool.{not, _&&_}
+use mathlib.Core.Logic.{_↔_, inl, inr}
+use mathlib.Core.Bool.{Bool, true, false, not, _&&_}
 use mathlib.Core.List.{List, [], _∷_, List·Memᴰ·head, List·Memᴰ·tail}
 use mathlib.Core.Option.{Option, none, some}
+use lib.Dec.{T}
 use lib.ListN.{length, getD, take}
 use Rattle.sets.specs.Sets.{Facts, listed, _∈_}
 use Rattle.meaning.specs.Model.{Rule, Model, State, ruleOf, goalOf}
@@ -17,25 +18,32 @@ use Rattle.meaning.specs.Published.{HC, Meets, Next, Transition, Path}
 use Rattle.meaning.specs.Published.Path.{here, step}
 use Rattle.meaning.specs.Promises.{FirstUnmet, roundsOn, EndsSo, IsOutcomeFrom}
 use Rattle.meaning.specs.Promises.EndsSo.{attack, blocked, notMet}
-use Rattle.sets.proofs.Laws.{both, either, negated, listed-is}
+use Rattle.sets.proofs.Laws.{both, either, listed-is}
 use Rattle.meaning.proofs.Closing.{closure-is-HC}
 use Rattle.meaning.proofs.Meeting.{Met, unmet-is}
 
--- The state after a rule is (the state without P) together with A.
-pub after-is : (r : Rule) (S : State) → Next r S (after r S)
+-- What isn't removed is persistent where P has it.
+not-removed : (p k : Bool) → T (not (p && not k)) ↔ (T p → T k)
+not-removed true true = (λ t s. tt, λ h. tt)
+not-removed true false = (λ t s. t, λ h. h tt)
+not-removed false k = (λ t s. absurd s, λ h. tt)
+
+-- The state after a rule is the state without those of P that aren't persistent, together with A.
+pub after-is : (kept : List ℕ) (r : Rule) (S : State) → Next kept r S (after kept r S)
 unfolding after Next
-after-is r S f =
-    let keeps = S .facts f && not (listed (r .P) f) in (
-      λ t. elim (either keeps (listed (r .A) f) .0 t) [
+after-is kept r S f =
+    let stays = not (listed (r .P) f && not (listed kept f)) in
+    let removal = not-removed (listed (r .P) f) (listed kept f) in (
+      λ t. elim (either (S .facts f && stays) (listed (r .A) f) .0 t) [
         | inl k ↦
-            let (s, n) = both (S .facts f) (not (listed (r .P) f)) .0 k in
-            inl (s, λ m. negated (listed (r .P) f) .0 n (listed-is (r .P) f .1 m))
+            let (s, n) = both (S .facts f) stays .0 k in
+            inl (s, λ m. listed-is kept f .0 (removal .0 n (listed-is (r .P) f .1 m)))
         | inr a ↦ inr (listed-is (r .A) f .0 a)
       ],
-      λ s. either keeps (listed (r .A) f) .1 (elim s [
+      λ s. either (S .facts f && stays) (listed (r .A) f) .1 (elim s [
         | inl k ↦
-            let n = negated (listed (r .P) f) .1 (λ t. k .1 (listed-is (r .P) f .0 t)) in
-            inl (both (S .facts f) (not (listed (r .P) f)) .1 (k .0, n))
+            let n = removal .1 (λ t. listed-is kept f .1 (k .1 (listed-is (r .P) f .0 t))) in
+            inl (both (S .facts f) stays .1 (k .0, n))
         | inr m ↦ inr (listed-is (r .A) f .1 m)
       ]),
     )
@@ -55,9 +63,9 @@ module _ (m : Model) where
 
   -- A rule of the model whose conditions are met leads on.
   pub fires : (k : ℕ) (S : State) → k < length (m .rules) → Meets (closed m S) (ruleOf m k .P) (ruleOf m k .N)
-      → Transition m k S (after (ruleOf m k) S)
+      → Transition m k S (after (m .persistent) (ruleOf m k) S)
   fires k S l u =
-      record { rule = l; closure = closed m S; isHC = closed-is S; meets = u; next = after-is (ruleOf m k) S }
+      record { rule = l; closure = closed m S; isHC = closed-is S; meets = u; next = after-is (m .persistent) (ruleOf m k) S }
 
   -- after n of the steps, in S: they are all, or a condition of the next one is the first that is unmet
   abbrev Stops : List ℕ → ℕ → State → Option Condition → Type 0
@@ -83,14 +91,14 @@ module _ (m : Model) where
   reach-leads [] h S = (here, zero-add _, refl)
   reach-leads (k ∷ ks) h S =
       go (unmetIn S k) refl (unmet-is (closed m S) (ruleOf m k .P) (ruleOf m k .N))
-      (reach-leads ks (λ j i. h j (List·Memᴰ·tail i)) (after (ruleOf m k) S))
+      (reach-leads ks (λ j i. h j (List·Memᴰ·tail i)) (after (m .persistent) (ruleOf m k) S))
     where
       go : (u : Option Condition) → unmetIn S k ≡ u → Met (closed m S) (ruleOf m k .P) (ruleOf m k .N) u
-          → Leads (after (ruleOf m k) S) ks (reach m (after (ruleOf m k) S) ks) → Leads S (k ∷ ks) (reach m S (k ∷ ks))
+          → Leads (after (m .persistent) (ruleOf m k) S) ks (reach m (after (m .persistent) (ruleOf m k) S) ks) → Leads S (k ∷ ks) (reach m S (k ∷ ks))
       go none i u (p, e, s) = rw (i, reach) (
         step (fires k S (h k (List·Memᴰ·head refl)) u) p,
-        add-assoc _ (reach m (after (ruleOf m k) S) ks .earlier) _ ∙ ap (λ n. rounds (m .clauses) (S .facts) + n) e,
-        stops-onward k _ ks _ (reach m (after (ruleOf m k) S) ks .stop) s,
+        add-assoc _ (reach m (after (m .persistent) (ruleOf m k) S) ks .earlier) _ ∙ ap (λ n. rounds (m .clauses) (S .facts) + n) e,
+        stops-onward k _ ks _ (reach m (after (m .persistent) (ruleOf m k) S) ks .stop) s,
       )
       go (some c) i u l = rw (i, reach) (here, zero-add _, (omega arith, u))
 

@@ -24,9 +24,9 @@ use Rattle.meaning.proofs.Reaching.{after-is, closed, closed-is, unmetI
 use Rattle.meaning.proofs.Runs.{ahead, ahead-none, onward-ahead, reach-fires, step-stops, steps-end}
 
 -- The state after a rule is one state.
-next-unique : (r : Rule) (S : State) {X Y : State} → Next r S X → Next r S Y → X ≡ Y
+next-unique : (kept : List ℕ) (r : Rule) (S : State) {X Y : State} → Next kept r S X → Next kept r S Y → X ≡ Y
 unfolding Next
-next-unique r S x y =
+next-unique kept r S x y =
     ap (λ (X : Facts). record { facts = X })
     (fun-ext (λ f. same-test (λ t. y f .1 (x f .0 t)) (λ t. x f .1 (y f .0 t))))
 
@@ -41,8 +41,8 @@ module _ {m : Model} where
   fired-met {k} t = on-closure m (ruleOf m k .P) (ruleOf m k .N) none (t .isHC) (t .meets)
 
   -- It leads to the state after it.
-  pub fired-after : {k : ℕ} {S S' : State} → Transition m k S S' → S' ≡ after (ruleOf m k) S
-  fired-after {k} {S} t = next-unique (ruleOf m k) S (t .next) (after-is (ruleOf m k) S)
+  pub fired-after : {k : ℕ} {S S' : State} → Transition m k S S' → S' ≡ after (m .persistent) (ruleOf m k) S
+  fired-after {k} {S} t = next-unique (m .persistent) (ruleOf m k) S (t .next) (after-is (m .persistent) (ruleOf m k) S)
 
   -- A transition is one step more.
   transition-reach : {k : ℕ} {S S' : State} → Transition m k S S' → (ks : List ℕ)

@@ -50,7 +50,7 @@ ahead-stays i n S c = rw (add-zero i, add-zero n)
 module _ (m : Model) where
   -- A rule with no condition unmet fires.
   pub reach-fires : (S : State) (k : ℕ) (ks : List ℕ) → unmetIn m S k ≡ none
-      → reach m S (k ∷ ks) ≡ onward (rounds (m .clauses) (S .facts)) (reach m (after (ruleOf m k) S) ks)
+      → reach m S (k ∷ ks) ≡ onward (rounds (m .clauses) (S .facts)) (reach m (after (m .persistent) (ruleOf m k) S) ks)
   unfolding reach
   reach-fires S k ks e = rw (e, reach)
 
@@ -59,7 +59,7 @@ module _ (m : Model) where
     pub step-fires : i < length ks → unmetIn m S (getD ks i 0) ≡ none
         → ahead i n (reach m S (drop i ks))
         ≡ ahead (i + 1) (n + rounds (m .clauses) (S .facts))
-        (reach m (after (ruleOf m (getD ks i 0)) S) (drop (i + 1) ks))
+        (reach m (after (m .persistent) (ruleOf m (getD ks i 0)) S) (drop (i + 1) ks))
     step-fires h e =
         rw (drop-cons ks i 0 h, reach-fires S (getD ks i 0) (drop (suc i) ks) e, ahead-onward i n, add-one i)
 
@@ -87,10 +87,10 @@ unfolding Below
 listed-below F xs h f l = is-false (λ i. omega (arith, h f (listed-is xs f .0 i)))
 
 -- A rule that adds facts below F leaves a state below F.
-pub after-below : (F : ℕ) (r : Rule) (S : State) → ((f : ℕ) → f ∈ r .A → f < F)
-    → Below F (S .facts) → Below F (after r S .facts)
+pub after-below : (F : ℕ) (kept : List ℕ) (r : Rule) (S : State) → ((f : ℕ) → f ∈ r .A → f < F)
+    → Below F (S .facts) → Below F (after kept r S .facts)
 unfolding Below Next
-after-below F r S h s f l = is-false (λ t. elim (after-is r S f .0 t) [
+after-below F kept r S h s f l = is-false (λ t. elim (after-is kept r S f .0 t) [
   | inl k ↦ fails (s f l) (k .0)
   | inr m ↦ omega (arith, h f m)
 ])
@@ -101,9 +101,11 @@ pub reach-below : (m : Model) (F : ℕ) → ((k f : ℕ) → f ∈ ruleOf m k .A
 unfolding reach stays onward
 reach-below m F h S [] s = s
 reach-below m F h S (k ∷ ks) s =
-    go (unmetIn m S k) refl (reach-below m F h (after (ruleOf m k) S) ks (after-below F (ruleOf m k) S (h k) s))
+    let S' = after (m .persistent) (ruleOf m k) S in
+    go (unmetIn m S k) refl (reach-below m F h S' ks (after-below F (m .persistent) (ruleOf m k) S (h k) s))
   where
-    go : (u : Option Condition) → unmetIn m S k ≡ u → Below F (reach m (after (ruleOf m k) S) ks .state .facts)
+    go : (u : Option Condition) → unmetIn m S k ≡ u
+        → Below F (reach m (after (m .persistent) (ruleOf m k) S) ks .state .facts)
         → Below F (reach m S (k ∷ ks) .state .facts)
     go none e b = rw (e, reach) b
     go (some c) e b = rw (e, reach) s

@@ -5,12 +5,12 @@ use native.Mathlib.Numerals.{add-one}
 use native.Mathlib.Omega.{arith}
 use mathlib.Core.Path.{_≡_, refl, sym, _∙_, ap}
 use mathlib.Core.Logic.{_↔_, _⊎_, inl, inr}
-use mathlib.Core.Bool.{Bool}
+use mathlib.Core.Bool.{Bool, true, false, not, _&&_, _||_}
 use mathlib.Core.List.{List, [], _∷_, _++_, List·Memᴰ·not-nil}
 use mathlib.Core.Option.{none, some}
-use lib.Dec.{T, ltb, ltb→lt, lt→ltb}
+use lib.Dec.{T, eqb, ltb, ltb→lt, lt→ltb}
 use lib.ListN.{length, take}
-use Rattle.sets.specs.Sets.{Facts, every, _∈_}
+use Rattle.sets.specs.Sets.{Facts, any, every, listed, _∈_}
 use Rattle.meaning.specs.Model.{Clause, Rule, Model, Trace, State, ruleOf, goalOf, start}
 use Rattle.meaning.specs.Rounds.{round, rounds, closure, roundNumber, missingHeads}
 use Rattle.meaning.specs.Run.{conditions, find, unmet, after, Ending, Outcome, run, named}
@@ -158,15 +158,38 @@ sum-on-path m t n p = sum-of-rounds m t n ∙ path-sum (run-is m t n .path) ∙ 
 pub sum-of-attack : (m : Model) (t : Trace) (a : TrueAttack m t) → run m t .rounds ≡ roundsOn (a .path)
 sum-of-attack m t a = ap (λ (o : Outcome). o .rounds) (sym (is-run m t (attack-outcome a)))
 
--- A fact stored after a rule was stored before or is one that the rule adds: derived facts are never carried over.
-pub never-carried : (r : Rule) (S : State) (f : ℕ) → T (after r S .facts f) → T (S .facts f) ⊎ (f ∈ r .A)
-unfolding Next
-never-carried r S f t = elim (after-is r S f .0 t) [ inl k ↦ inl (k .0) | inr a ↦ inr a ]
+-- the effect of a rule, where some facts are persistent
+module _ (persistent : List ℕ) (r : Rule) (S : State) (f : ℕ) where
+  -- A fact stored after a rule was stored before or is one that the rule adds: derived facts are never carried over,
+  -- persistent or not.
+  pub never-carried : T (after persistent r S .facts f) → T (S .facts f) ⊎ (f ∈ r .A)
+  unfolding Next
+  never-carried t = elim (after-is persistent r S f .0 t) [ inl k ↦ inl (k .0) | inr a ↦ inr a ]
 
--- A fact that a rule adds is stored after it, though the rule may remove it too.
-pub added-stored : (r : Rule) (S : State) (f : ℕ) → f ∈ r .A → T (after r S .facts f)
-unfolding Next
-added-stored r S f a = after-is r S f .1 (inr a)
+  -- A fact that a rule adds is stored after it, though the rule may remove it too.
+  pub added-stored : f ∈ r .A → T (after persistent r S .facts f)
+  unfolding Next
+  added-stored a = after-is persistent r S f .1 (inr a)
+
+  -- "all persistent predicates of S are still contained in S'"
+  pub persistent-stays : f ∈ persistent → T (S .facts f) → T (after persistent r S .facts f)
+  unfolding Next
+  persistent-stays k s = after-is persistent r S f .1 (inl (s, λ m. k))
+
+  -- A fact of P that is neither persistent nor added is gone.
+  pub removed : f ∈ r .P → (f ∈ persistent → ⊥) → (f ∈ r .A → ⊥) → T (after persistent r S .facts f) → ⊥
+  unfolding Next
+  removed p k a t = elim (after-is persistent r S f .0 t) [ inl (s, h) ↦ k (h p) | inr m ↦ a m ]
+
+-- Where no fact is persistent: "The next state is (S without P) together with A."
+pub nothing-persistent : (r : Rule) (S : State) (f : ℕ)
+    → after [] r S .facts f ≡ (S .facts f && not (listed (r .P) f) || listed (r .A) f)
+unfolding after listed any
+nothing-persistent r S f = rw (all-of (any (eqb f) (r .P)))
+  where
+    all-of : (p : Bool) → (p && true) ≡ p
+    all-of true = refl
+    all-of false = refl
 
 -- A rule of the model fires exactly if every fact of P and no fact of N is in the closure.
 pub fires-exactly : (m : Model) (k : ℕ) (S : State) → k < length (m .rules)
@@ -174,11 +197,11 @@ pub fires-exactly : (m : Model) (k : ℕ) (S : State) → k < length (m .rules)
     ↔ (unmet (closure (m .clauses) (S .facts)) (conditions (ruleOf m k .P) (ruleOf m k .N)) ≡ none)
 fires-exactly m k S l = (
   λ (S', t). fired-met t,
-  λ e. (after (ruleOf m k) S, fires m k S l (unmet-none _ (ruleOf m k .P) (ruleOf m k .N) .0 e)),
+  λ e. (after (m .persistent) (ruleOf m k) S, fires m k S l (unmet-none _ (ruleOf m k .P) (ruleOf m k .N) .0 e)),
 )
 
 -- It leads to the state after it and to no other.
-pub fires-once : {m : Model} {k : ℕ} {S S' : State} → Transition m k S S' → S' ≡ after (ruleOf m k) S
+pub fires-once : {m : Model} {k : ℕ} {S S' : State} → Transition m k S S' → S' ≡ after (m .persistent) (ruleOf m k) S
 fires-once = fired-after
 
 -- A rule with a fact in both P and N never fires.

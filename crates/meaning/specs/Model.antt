@@ -21,10 +21,12 @@ pub record Goal : Type 0 where
   pub P : List ℕ
   pub N : List ℕ
 
--- "Model sections, in order": the fact count F, initial facts, clauses, rules, attack states
+-- "Model sections, in order": the fact count F, initial facts, clauses, rules, attack states; with "the persistent
+-- facts" (document 02, wish 2), which a model of version 1 has none of
 pub record Model : Type 0 where
   pub F : ℕ
   pub initial : List ℕ
+  pub persistent : List ℕ
   pub clauses : List Clause
   pub rules : List Rule
   pub goals : List Goal

@@ -23,10 +23,11 @@ pub record Meets (X : Facts) (P N : List ℕ) : Type 0 where
   pub positive : (f : ℕ) → f ∈ P → T (X f)
   pub negative : (f : ℕ) → f ∈ N → T (X f) → ⊥
 
--- "The next state is (S without P) together with A.": 003's S' without its exemptions, which 01 doesn't take over
--- (docs/DECISIONS.md, "Meaning")
-unfoldable pub Next : Rule → State → State → Type 0
-Next r S S' = (f : ℕ) → T (S' .facts f) ↔ ((T (S .facts f) × (f ∈ r .P → ⊥)) ⊎ f ∈ r .A)
+-- "S' = S \ I(PosE(L)) ∪ I(S_R)", where PosE leaves out the persistent facts of P. That 003 leaves out the clause heads
+-- too is not taken over (docs/DECISIONS.md, "Meaning").
+unfoldable pub Next : List ℕ → Rule → State → State → Type 0
+Next persistent r S S' =
+    (f : ℕ) → T (S' .facts f) ↔ ((T (S .facts f) × (f ∈ r .P → f ∈ persistent)) ⊎ f ∈ r .A)
 
 -- "S ⇒ S'" by the model's rule k
 pub record Transition (m : Model) (k : ℕ) (S S' : State) : Type 0 where
@@ -34,7 +35,7 @@ pub record Transition (m : Model) (k : ℕ) (S S' : State) : Type 0 where
   pub closure : Facts
   pub isHC : HC (m .clauses) (S .facts) closure
   pub meets : Meets closure (ruleOf m k .P) (ruleOf m k .N)
-  pub next : Next (ruleOf m k) S S'
+  pub next : Next (m .persistent) (ruleOf m k) S S'
 
 -- the rules of the list, one after the other, lead from S to S'
 pub data Path (m : Model) : State → List ℕ → State → Type 0 where

@@ -38,10 +38,13 @@ unmet X = find (λ c. not (met X c))
 
 -- ---- the steps
 
--- "The next state is (S without P) together with A."
-unfoldable pub after : Rule → State → State
+-- "A step removes from the state only those of P that aren't persistent, and stores nothing else but A." (document 02,
+-- wish 2; with no persistent facts it is document 01's "(S without P) together with A")
+unfoldable pub after : List ℕ → Rule → State → State
 unfolding listed
-after r S = record { facts = λ f. S .facts f && not (listed (r .P) f) || listed (r .A) f }
+after persistent r S = record {
+  facts = λ f. S .facts f && not (listed (r .P) f && not (listed persistent f)) || listed (r .A) f;
+}
 
 -- Where some steps lead: how many of them fire, the rounds of all states before the last one reached, that state, and
 -- the first unmet condition of the step that can't fire, if there is one.
@@ -65,7 +68,7 @@ unfolding unmet conditions closure ruleOf stays onward after
 reach m S [] = stays S none
 reach m S (k ∷ ks) =
     elim (unmet (closure (m .clauses) (S .facts)) (conditions (ruleOf m k .P) (ruleOf m k .N))) [
-      | none ↦ onward (rounds (m .clauses) (S .facts)) (reach m (after (ruleOf m k) S) ks)
+      | none ↦ onward (rounds (m .clauses) (S .facts)) (reach m (after (m .persistent) (ruleOf m k) S) ks)
       | some c ↦ stays S (some c)
     ]
 

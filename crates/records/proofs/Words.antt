@@ -1,5 +1,5 @@
 -- Laws on the numbers in bytes: how large they are, how many there are, and the next one at a place.
-use Prim.Native.Nat.{ℕ, _+_, _/_, _%_, _≤_, _<_}
+use Prim.Native.Nat.{ℕ, zero, suc, _+_, _*_, _/_, _%_, _≤_, _<_}
 use mathlib.Core.Path.{_≡_, refl, _∙_, sym}
 use mathlib.Core.Bool.{true, false, true≢false, false≢true}
 use mathlib.Core.List.{List, [], _∷_}
@@ -38,6 +38,17 @@ words-none (a ∷ b ∷ rest) h = absurd (not-suc-le-zero (le-of-suc-le-suc (le-
 pub words-at : (bytes : List ℕ) (at : ℕ) → 2 ≤ length (drop at bytes)
     → words (drop at bytes) ≡ word (drop at bytes) ∷ words (drop (at + 2) bytes)
 words-at bytes at h = words-two (drop at bytes) h ∙ rw (drop-drop 2 at bytes)
+
+-- Number i of some bytes is the two bytes at its place.
+pub words-index : (bytes : List ℕ) (i : ℕ) → i < length (words bytes)
+    → getD (words bytes) i 0 ≡ word (drop (2 * i) bytes)
+unfolding words word
+words-index [] i h = absurd (not-suc-le-zero h)
+words-index (a ∷ []) i h = absurd (not-suc-le-zero h)
+words-index (a ∷ b ∷ rest) zero h = refl
+words-index (a ∷ b ∷ rest) (suc i) h =
+    let twice : 2 * suc i ≡ suc (suc (2 * i)) = omega arith in
+    rw twice (words-index rest i (le-of-suc-le-suc h))
 
 -- there is a number for every two bytes
 pub length-words : (bytes : List ℕ) → length (words bytes) ≡ length bytes / 2

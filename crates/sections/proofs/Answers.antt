@@ -2,11 +2,11 @@
 -- several faults.
 use Prim.Native.Nat.{ℕ}
 use mathlib.Core.Path.{_≡_, refl}
-use mathlib.Core.Bool.{Bool, true, false, not}
+use mathlib.Core.Bool.{Bool, true, false, _||_}
 use mathlib.Core.List.{List}
 use mathlib.Core.Option.{Option, none, some}
 use native.Mathlib.Omega.{arith}
-use lib.Dec.{ltb, eqb}
+use lib.Dec.{ltb}
 use lib.ListN.{length, take, getD}
 use Rattle.records.specs.Records.{given, _orElse_}
 use Rattle.records.specs.declared.Fault.{Fault}
@@ -78,13 +78,15 @@ told f g is-2 is-3 false false =
     }
 
 -- what the number for a file's size and version says: 2 is the whole file, 3 its first byte
-abbrev pub Head : ℕ → List ℕ → ℕ → Type 0
-Head most file number =
-    Told (tooLong most file) (wrongVersion file) (record { number = 2; start = 0; size = length file })
+abbrev pub Head : ℕ → ℕ → List ℕ → ℕ → Type 0
+Head most latest file number =
+    Told (tooLong most file) (wrongVersion latest file) (record { number = 2; start = 0; size = length file })
     (record { number = 3; start = 0; size = length (take 1 file) }) number
 
 -- The number says that.
-pub head-told : (most : ℕ) (file : List ℕ) {number : ℕ}
-    → number ≡ faultNumber (tooLong most file orElse wrongVersion file) → Head most file number
+pub head-told : (most latest : ℕ) (file : List ℕ) {number : ℕ}
+    → number ≡ faultNumber (tooLong most file orElse wrongVersion latest file) → Head most latest file number
 unfolding tooLong wrongVersion
-head-told most file e = rw e (told _ _ refl refl (ltb most (length file)) (not (eqb (getD file 0 0) 1)))
+head-told most latest file e =
+    let version = getD file 0 0 in
+    rw e (told _ _ refl refl (ltb most (length file)) (ltb version 1 || ltb latest version))

@@ -20,7 +20,7 @@ use Rattle.records.proofs.Sections.{first-here, first-later}
 use Rattle.records.proofs.Places.{records-sum}
 use Rattle.sections.specs.Sections.{long, endAt, fits, payload, restFault, moved, inSection, allOf, sizes, reader}
 use Rattle.sections.specs.declared.Role.{Role}
-use Rattle.sections.specs.declared.Role.the-variants.{Sizes, Initial, Clauses, Rules, Goals}
+use Rattle.sections.specs.declared.Role.the-variants.{Sizes, Initial, Persistent, Clauses, Rules, Goals}
 use Rattle.sections.specs.Answers.{passed}
 use Rattle.sections.specs.declared.Passed.{Passed}
 use Rattle.sections.proofs.Fits.{fits-within, payload-part}
@@ -117,6 +117,7 @@ pub reader-within : (role : Role) (F : ℕ) (bytes : List ℕ) (f : Fault) → r
 unfolding reader
 reader-within Sizes F bytes f e = all-within (sizes bytes) bytes f e
 reader-within Initial F bytes f e = all-within (bare F bytes) bytes f e
+reader-within Persistent F bytes f e = all-within (bare F bytes) bytes f e
 reader-within Clauses F bytes f e = fault-within (judge kind.Clause F) bytes f e
 reader-within Rules F bytes f e = fault-within (judge kind.Rule F) bytes f e
 reader-within Goals F bytes f e = fault-within (judge kind.Goal F) bytes f e

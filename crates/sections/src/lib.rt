@@ -5,10 +5,10 @@ ghost use mathlib.Core.Bool.{not, cond};
 ghost use Prim.Native.Nat.{_+_, _≤_, _<_};
 ghost use lib.Dec.{eqb};
 ghost use lib.ListN.{length, drop};
-ghost use Rattle.records.specs.Records.{given};
+ghost use Rattle.records.specs.Records.{given, bare};
 ghost use Rattle.records.specs.Answers.{code, found};
-ghost use Rattle.sections.specs.Sections.{long, endAt, fits, payload, inSection, restFault, moved, sizes};
-ghost use Rattle.sections.specs.Sections.{reader, entries};
+ghost use Rattle.sections.specs.Sections.{long, endAt, fits, payload, inSection, restFault, moved, allOf};
+ghost use Rattle.sections.specs.Sections.{sizes, reader, entries};
 ghost use Rattle.sections.specs.Answers.{passed};
 
 pub mod head;
@@ -21,6 +21,7 @@ use records::Kind;
 pub enum Role {
     Sizes,
     Initial,
+    Persistent,
     Clauses,
     Rules,
     Goals,
@@ -113,13 +114,21 @@ fn sizes_number(bytes: &[u8]) -> u8
     0
 }
 
+// The answer for bare facts, in a model of so many.
+fn numbers(bytes: &[u8], facts: usize) -> Found
+    ensures { λ r. ⌜ r ≡ found (allOf (bare facts (now (bytes .entry))) (now (bytes .entry))) 0 ⌝ }
+{
+    whole(records::numbers_number(bytes, facts), bytes.len())
+}
+
 // The answer for a section's bytes, in a model of so many facts.
 fn read(bytes: &[u8], role: Role, facts: usize) -> Found
     ensures { λ r. ⌜ r ≡ found (reader role facts (now (bytes .entry))) (entries role (now (bytes .entry))) ⌝ }
 {
     match role {
         Role::Sizes => whole(sizes_number(bytes), bytes.len()),
-        Role::Initial => whole(records::numbers_number(bytes, facts), bytes.len()),
+        Role::Initial => numbers(bytes, facts),
+        Role::Persistent => numbers(bytes, facts),
         Role::Clauses => records::first_fault(bytes, Kind::Clause, facts),
         Role::Rules => records::first_fault(bytes, Kind::Rule, facts),
         Role::Goals => records::first_fault(bytes, Kind::Goal, facts),

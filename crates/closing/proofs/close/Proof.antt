@@ -10,7 +10,8 @@ use denote.Ref.{now}
 use Rattle.files.specs.Files.{modelFault}
 use Rattle.files.proofs.Answers.{judged-fine, judged-fault}
 use Rattle.closing.specs.Closing.{noRoom}
-use Rattle.closing.proofs.Alone.{too-short, long-enough, no-room, model-refused, model-fine, fine-shape}
+use Rattle.files.proofs.Causes.{fine-shape}
+use Rattle.closing.proofs.Alone.{too-short, long-enough, no-room, model-refused, model-fine}
 use borrow.Author.Needs.{needs}
 use Rattle.closing.proofs.close.Statement.{statement}
 use Rattle.closing.proofs.close.Tie as tie

@@ -1,9 +1,8 @@
 -- `sections::read` meets its contract: each role has its reader.
 use mathlib.Core.Path.{_∙_}
 use denote.Ref.{now}
-use Rattle.records.specs.Records.{bare}
 use Rattle.sections.specs.Sections.{sizes, reader, entries}
-use Rattle.sections.proofs.Parts.{sizes-counted, bare-counted, whole-fault}
+use Rattle.sections.proofs.Parts.{sizes-counted, whole-fault}
 use borrow.Author.Needs.{needs}
 use Rattle.sections.proofs.read.Statement.{statement}
 use Rattle.sections.proofs.read.Tie as tie
@@ -20,26 +19,29 @@ whole-requires c κs = search needs
 enum-told-2 : tie.Need-enum-told-2
 enum-told-2 c = search needs
 
-numbers-number-requires : tie.Need-numbers-number-requires
-numbers-number-requires c κs = search needs
-
-whole-requires-2 : tie.Need-whole-requires-2
-whole-requires-2 c κs = search needs
+numbers-requires : tie.Need-numbers-requires
+numbers-requires c κs = search needs
 
 enum-told-3 : tie.Need-enum-told-3
 enum-told-3 c = search needs
 
-first-fault-requires : tie.Need-first-fault-requires
-first-fault-requires c κs = search needs
+numbers-requires-2 : tie.Need-numbers-requires-2
+numbers-requires-2 c κs = search needs
 
 enum-told-4 : tie.Need-enum-told-4
 enum-told-4 c = search needs
 
-first-fault-requires-2 : tie.Need-first-fault-requires-2
-first-fault-requires-2 c κs = search needs
+first-fault-requires : tie.Need-first-fault-requires
+first-fault-requires c κs = search needs
 
 enum-told-5 : tie.Need-enum-told-5
 enum-told-5 c = search needs
+
+first-fault-requires-2 : tie.Need-first-fault-requires-2
+first-fault-requires-2 c κs = search needs
+
+enum-told-6 : tie.Need-enum-told-6
+enum-told-6 c = search needs
 
 first-fault-requires-3 : tie.Need-first-fault-requires-3
 first-fault-requires-3 c κs = search needs
@@ -56,27 +58,23 @@ returns c =
 
 returns-2 : tie.Need-returns-2
 unfolding reader entries
-returns-2 c =
-    let args = c .before .before .before .before .before .args in
-    let bytes = now (args .bytes) in
-    c .whole2 .ensures
-    ∙ rw (
-      c .before .before .enum-told2 .given .1,
-      whole-fault (bare (args .facts) bytes) bytes (bare-counted (args .facts) bytes)
-          (c .before .numbers-number .ensures),
-    )
+returns-2 c = c .numbers .ensures ∙ rw (c .before .enum-told2 .given .1)
 
 returns-3 : tie.Need-returns-3
 unfolding reader entries
-returns-3 c = c .first-fault .ensures ∙ rw (c .before .enum-told3 .given .1)
+returns-3 c = c .numbers2 .ensures ∙ rw (c .before .enum-told3 .given .1)
 
 returns-4 : tie.Need-returns-4
 unfolding reader entries
-returns-4 c = c .first-fault2 .ensures ∙ rw (c .before .enum-told4 .given .1)
+returns-4 c = c .first-fault .ensures ∙ rw (c .before .enum-told4 .given .1)
 
 returns-5 : tie.Need-returns-5
 unfolding reader entries
-returns-5 c = c .first-fault3 .ensures ∙ rw (c .before .enum-told5 .given .1)
+returns-5 c = c .first-fault2 .ensures ∙ rw (c .before .enum-told5 .given .1)
+
+returns-6 : tie.Need-returns-6
+unfolding reader entries
+returns-6 c = c .first-fault3 .ensures ∙ rw (c .before .enum-told6 .given .1)
 
 pub read-spec : {M : Type 1} → statement M
 read-spec =
@@ -86,16 +84,18 @@ read-spec =
     sizes-number-requires
     whole-requires
     enum-told-2
-    numbers-number-requires
-    whole-requires-2
+    numbers-requires
     enum-told-3
-    first-fault-requires
+    numbers-requires-2
     enum-told-4
-    first-fault-requires-2
+    first-fault-requires
     enum-told-5
+    first-fault-requires-2
+    enum-told-6
     first-fault-requires-3
     returns
     returns-2
     returns-3
     returns-4
-    returns-5)
+    returns-5
+    returns-6)

@@ -22,6 +22,7 @@ use Rattle.lists.specs.Lists.{Cut, ListBytes}
 use Rattle.sections.specs.declared.Role.the-variants.{Rules}
 use Rattle.files.specs.Files.{pairFault, shapeFault, modelOf, traceOf, sectionOf}
 use Rattle.files.specs.Known.{Known}
+use Rattle.files.proofs.Laws.{persistent-ascending, persistent-in}
 use Rattle.files.proofs.Lists.{rule-there, rule-record, rule-known, rule-P, rule-N, rule-A}
 use Rattle.files.proofs.Traces.{pair-shape, pair-fits, pair-entries, pair-few, pair-step, pair-step-known}
 use Rattle.closing.specs.Closing.{numbered, ClosesUnder}
@@ -32,23 +33,23 @@ use Rattle.checking.proofs.running.search.Statement.{statement}
 use Rattle.checking.proofs.running.search.Tie as tie
 
 abbrev Inv-loop : tie.InvT-loop
-Inv-loop model trace state table entries steps fired rounds rule p n count i₀ i = Looking p n (numbered table) i
+Inv-loop model trace state table entries steps persistent fired rounds rule p n count i₀ i = Looking p n (numbered table) i
 
 abbrev μ-loop : tie.MeasureT-loop
-μ-loop model trace state table entries steps fired rounds rule p n count i₀ i = count - i
+μ-loop model trace state table entries steps persistent fired rounds rule p n count i₀ i = count - i
 
 abbrev Inv-search : tie.InvT-search
-Inv-search model trace state₀ table₀ entries steps fired₀ rounds₀ state table fired rounds =
+Inv-search model trace state₀ table₀ entries steps persistent fired₀ rounds₀ state table fired rounds =
     On model trace state₀ table₀ state table fired rounds
 
 abbrev μ-search : tie.MeasureT-search
-μ-search model trace state₀ table₀ entries steps fired₀ rounds₀ state table fired rounds = steps - fired
+μ-search model trace state₀ table₀ entries steps persistent fired₀ rounds₀ state table fired rounds = steps - fired
 
 -- ---- what is known before a step
 
 module _ (s : tie.At-search Inv-loop μ-loop Inv-search μ-search) where
   abbrev start : tie.Start Inv-loop μ-loop Inv-search μ-search
-  start = s .before .before .before .before .before .before
+  start = s .before .before .before .before .before .before .before
 
   abbrev model : List ℕ
   model = now (start .args .model)
@@ -72,8 +73,8 @@ module _ (s : tie.At-search Inv-loop μ-loop Inv-search μ-search) where
   few-steps : length ks ≤ 1024
   few-steps = pair-few model trace fine
 
-  entries-size : length (now (s .before .entries .result)) ≡ 2 + 2 * length ks
-  entries-size = ap length (s .before .entries .ensures) ∙ pair-entries model trace fine
+  entries-size : length (now (s .before .before .entries .result)) ≡ 2 + 2 * length ks
+  entries-size = ap length (s .before .before .entries .ensures) ∙ pair-entries model trace fine
 
   long : 4096 ≤ length (s .search .table)
   long = omega (arith, on .as-long, start .pre .0 .entries)
@@ -117,7 +118,7 @@ module _ (c : tie.After-word-at Inv-loop μ-loop Inv-search μ-search) where
   number-is : c .word-at .result ≡ getD (ks at-rule) (at-rule .search .fired) 0
   number-is =
       c .word-at .ensures
-      ∙ ap (λ (l : List ℕ). word (drop (2 + 2 * at-rule .search .fired) l)) (at-rule .before .entries .ensures)
+      ∙ ap (λ (l : List ℕ). word (drop (2 + 2 * at-rule .search .fired) l)) (at-rule .before .before .entries .ensures)
       ∙ sym (pair-step (model at-rule) (trace at-rule) (fine at-rule) (at-rule .search .fired) (step-there closing-of))
 
   known-rule : c .word-at .result < length (modelOf (model at-rule) .rules)
@@ -217,8 +218,13 @@ sub-steps c =
       pair-entries (now (s .args .model)) (now (s .args .trace)) (s .pre .0 .fine),
     )
 
+section-requires : tie.Need-section-requires Inv-loop μ-loop Inv-search μ-search
+section-requires c κs =
+    let s = c .before .before .before .before .before in
+    pair-shape (now (s .args .model)) (now (s .args .trace)) (s .pre .0 .fine)
+
 search-holds : tie.Need-search-holds Inv-loop μ-loop Inv-search μ-search
-search-holds c = on-start _ _ _ _ (c .before .before .before .before .before .pre .1)
+search-holds c = on-start _ _ _ _ (c .before .before .before .before .before .before .pre .1)
 
 close-judged-requires : tie.Need-close-judged-requires Inv-loop μ-loop Inv-search μ-search
 close-judged-requires c κs = let s = c .before .before .before in (shape s, long s)
@@ -284,7 +290,8 @@ list-of-requires-3 c κs = (cut-of (c .before .before .before .before .before), 
 
 apply-requires : tie.Need-apply-requires Inv-loop μ-loop Inv-search μ-search
 apply-requires c κs =
-    (known-A (c .before), room (at-rule (c .before .before .before .before .before .before .before .before)))
+    let s = here (lists-3 (c .before)) in
+    (known-A (c .before), rw (s .before .section .ensures) (persistent-ascending (model s) (shape s)), room s)
 
 add-fired : tie.Need-add-fired Inv-loop μ-loop Inv-search μ-search
 add-fired c =
@@ -308,6 +315,7 @@ search-again c =
     on-fired (model (here l)) (trace (here l)) (on (here l)) (closed k) (step-there k) (asked-is l none none-left)
     (few-more k) (P-is l)
     (rule-A _ _ (list-is (record-of l) 2 (a .list-of3 .ensures)) ∙ rule-is l (λ r. r .A))
+    (persistent-in _ (here l .before .section .ensures))
     (c .before .before .apply .ensures)
 
 same-length : tie.Need-same-length Inv-loop μ-loop Inv-search μ-search
@@ -351,6 +359,7 @@ search-spec =
     μ-search
     entries-requires
     sub-steps
+    section-requires
     search-holds
     close-judged-requires
     add-rounds

@@ -68,7 +68,7 @@ loop-again c =
     λ g. added .set g
     ∙ rw (room-in 512 state (fact .result) (omega (arith, fact .ensures)), ← fact .ensures)
     (ap (λ (b : Bool). members state g || b) (and-true _)) in
-    let done = done-one _||_ add-idle add-twice list state next at (omega arith) one in
+    let done = done-one (λ g. _||_) add-idle add-twice list state next at (omega arith) one in
     record {
       within = omega arith;
       room = omega (arith, added .kept .as-long);
@@ -84,7 +84,7 @@ returns : tie.Need-returns Inv-loop μ-loop
 returns c =
     let loop = c .before .loop in
     let list = now (c .before .before .before .before .args .list) in
-    let done = done-all _||_ add-idle add-twice list (loop .state) (loop .at) (omega arith) in
+    let done = done-all (λ g. _||_) add-idle add-twice list (loop .state) (loop .at) (omega arith) in
     record {
       facts = λ g. sym (done g) ∙ loop .inv .facts g;
       kept = loop .inv .kept;

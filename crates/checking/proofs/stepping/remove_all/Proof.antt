@@ -1,10 +1,12 @@
 -- `remove_all` meets its contract: what the facts that are left would remove, and what was removed, is what all of them
 -- remove.
 use Prim.Native.Nat.{ℕ, _-_, _≤_}
-use mathlib.Core.Path.{_≡_, refl, sym, _∙_}
-use mathlib.Core.Bool.{Bool, not, _&&_}
+use mathlib.Core.Path.{_≡_, refl, sym, subst, _∙_}
+use mathlib.Core.Logic.{⊎-elim}
+use mathlib.Core.Bool.{Bool}
 use mathlib.Core.List.{List}
 use native.Mathlib.Omega.{arith}
+use borrow.Author.Tests.{not-true, not-false}
 use denote.Ref.{now}
 use lib.Dec.{eqb}
 use lib.ListN.{length, drop}
@@ -12,25 +14,67 @@ use Rattle.sets.specs.Sets.{listed}
 use Rattle.facts.specs.Facts.{members, Kept}
 use Rattle.facts.proofs.Laws.{kept-same, kept-trans}
 use Rattle.records.specs.Words.{word, words}
-use Rattle.checking.proofs.Changing.{done-one, done-all, remove-idle, remove-twice}
+use Rattle.checking.specs.Stepping.{Holds}
+use Rattle.checking.proofs.Changing.{without, done-one, done-all, remove-idle, remove-twice, keeps, takes}
+use borrow.Author.Needs.{needs}
 use Rattle.checking.proofs.stepping.remove_all.Statement.{statement}
 use Rattle.checking.proofs.stepping.remove_all.Tie as tie
 
-record Inv (list state₀ state : List ℕ) (at : ℕ) : Type 0 where
+-- what a fact of the list does to the membership of a fact
+abbrev gone : List ℕ → ℕ → Bool → Bool → Bool
+gone persistent = without (listed (words persistent))
+
+record Inv (list persistent state₀ state : List ℕ) (at : ℕ) : Type 0 where
   within : at ≤ length list
   kept : Kept 512 state₀ state
   facts : (g : ℕ)
-      → (members state g && not (listed (words (drop at list)) g)) ≡ (members state₀ g && not (listed (words list) g))
-
--- what a fact of the list does to a membership
-abbrev without : Bool → Bool → Bool
-without x gone = x && not gone
+      → gone persistent g (members state g) (listed (words (drop at list)) g)
+      ≡ gone persistent g (members state₀ g) (listed (words list) g)
 
 abbrev Inv-loop : tie.InvT-loop
-Inv-loop list state₀ at₀ state at = Inv list state₀ state at
+Inv-loop list persistent state₀ at₀ state at = Inv list persistent state₀ state at
 
 abbrev μ-loop : tie.MeasureT-loop
-μ-loop list state₀ at₀ state at = length list - at
+μ-loop list persistent state₀ at₀ state at = length list - at
+
+-- the fact at hand is gone, unless it is persistent
+module _ (c : tie.Joined1 Inv-loop μ-loop) where
+  abbrev loop : tie.At-loop Inv-loop μ-loop
+  loop = c .before .before .before .before
+
+  abbrev start : tie.Start Inv-loop μ-loop
+  start = loop .before .before .before .before
+
+  abbrev list : List ℕ
+  list = now (start .args .list)
+
+  abbrev persistent : List ℕ
+  persistent = now (start .args .persistent)
+
+  abbrev fact : ℕ
+  fact = c .before .before .word-at .result
+
+  abbrev Done : List ℕ → Type 0
+  Done state = Holds (loop .loop .state) state (λ g. gone persistent g (members (loop .loop .state) g) (eqb g fact))
+
+  done-here : Done (c .if1 .state)
+  done-here =
+      let known = c .before .has .ensures in
+      ⊎-elim
+      (λ w.
+      let removed = w .2 .ensures in
+      let other = sym known ∙ not-true _ (w .0 .taken) in
+      subst Done (sym (w .5)) (record {
+        facts = λ g. removed .set g ∙ sym (takes (listed (words persistent)) fact other g (members (loop .loop .state) g));
+        kept = removed .kept;
+      }))
+      (λ w.
+      let stays = sym known ∙ not-false _ (w .0 .left) in
+      subst Done (sym (w .1)) (record {
+        facts = λ g. sym (keeps (listed (words persistent)) fact stays g (members (loop .loop .state) g));
+        kept = kept-same _;
+      }))
+      (c .if1 .came)
 
 loop-holds : tie.Need-loop-holds Inv-loop μ-loop
 loop-holds c = record { within = omega arith; kept = kept-same _; facts = λ g. refl }
@@ -40,6 +84,9 @@ sub-loop c = omega arith
 
 word-at-requires : tie.Need-word-at-requires Inv-loop μ-loop
 word-at-requires c κs = omega arith
+
+has-requires : tie.Need-has-requires Inv-loop μ-loop
+has-requires c κs = c .before .before .before .before .before .before .pre
 
 remove-requires : tie.Need-remove-requires Inv-loop μ-loop
 remove-requires c κs = tt
@@ -52,19 +99,17 @@ loop-less c = omega arith
 
 loop-again : tie.Need-loop-again Inv-loop μ-loop
 loop-again c =
-    let loop = c .before .before .before .before .before .before in
-    let list = now (loop .before .before .before .args .list) in
-    let removed = c .before .before .remove .ensures in
-    let state = loop .loop .state in
-    let next = c .before .before .remove .last .0 in
-    let at = loop .loop .at in
-    let one : (g : ℕ) → members next g ≡ without (members state g) (eqb g (word (drop at list))) =
-    λ g. removed .set g ∙ rw (← c .before .before .before .word-at .ensures) in
-    let done = done-one without remove-idle remove-twice list state next at (omega arith) one in
+    let k = listed (words (persistent c)) in
+    let at = loop c .loop .at in
+    let state = loop c .loop .state in
+    let next = c .if1 .state in
+    let one : (g : ℕ) → members next g ≡ without k g (members state g) (eqb g (word (drop at (list c)))) =
+    λ g. done-here c .facts g ∙ rw (← c .before .before .word-at .ensures) in
+    let done = done-one (without k) (remove-idle k) (remove-twice k) (list c) state next at (omega arith) one in
     record {
       within = omega arith;
-      kept = kept-trans (loop .loop .inv .kept) (removed .kept);
-      facts = λ g. done g ∙ loop .loop .inv .facts g;
+      kept = kept-trans (loop c .loop .inv .kept) (done-here c .kept);
+      facts = λ g. done g ∙ loop c .loop .inv .facts g;
     }
 
 same-length : tie.Need-same-length Inv-loop μ-loop
@@ -73,8 +118,10 @@ same-length c = c .before .loop .inv .kept .as-long
 returns : tie.Need-returns Inv-loop μ-loop
 returns c =
     let loop = c .before .loop in
-    let list = now (c .before .before .before .before .args .list) in
-    let done = done-all without remove-idle remove-twice list (loop .state) (loop .at) (omega arith) in
+    let start = c .before .before .before .before .before in
+    let list = now (start .args .list) in
+    let k = listed (words (now (start .args .persistent))) in
+    let done = done-all (without k) (remove-idle k) (remove-twice k) list (loop .state) (loop .at) (omega arith) in
     record {
       facts = λ g. sym (done g) ∙ loop .inv .facts g;
       kept = loop .inv .kept;
@@ -83,5 +130,5 @@ returns c =
 pub remove-all-spec : {M : Type 1} → statement M
 remove-all-spec =
     tie.close
-    (tie.spec Inv-loop μ-loop loop-holds sub-loop word-at-requires remove-requires add-at loop-less loop-again
-    same-length returns)
+    (tie.spec Inv-loop μ-loop loop-holds sub-loop word-at-requires has-requires remove-requires add-at loop-less
+    loop-again same-length returns)

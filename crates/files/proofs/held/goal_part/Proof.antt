@@ -5,6 +5,7 @@ use lib.ListN.{length}
 use Rattle.records.proofs.Places.{place-record, place-le}
 use Rattle.sections.specs.declared.Role.the-variants.{Goals}
 use Rattle.files.specs.Files.{sectionOf}
+use Rattle.files.proofs.Roles.{always}
 use Rattle.files.proofs.Shaped.{role-ends}
 use native.Mathlib.Omega.{arith}
 use Rattle.files.specs.Answers.{goalPart}
@@ -23,7 +24,7 @@ within c =
     let at = p .place .ensures in
     let inside : p .place .result ≤ length (sectionOf model Goals) =
     rw (at, p .before .section .ensures) (place-le (sectionOf model Goals) (start .args .g)) in
-    omega (arith, c .place-of .ensures, role-ends model (start .pre .0) Goals)
+    omega (arith, c .place-of .ensures, role-ends model (start .pre .0) Goals (always model .goals))
 
 section-requires : tie.Need-section-requires
 section-requires c κs = search needs

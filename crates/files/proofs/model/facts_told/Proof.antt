@@ -1,10 +1,12 @@
 -- `model::facts_told` meets its contract: fine sizes are two bytes, and F is the number that they are.
-use mathlib.Core.Path.{_∙_, ap}
+use mathlib.Core.Path.{_∙_, ap, sym}
 use native.Mathlib.Omega.{arith}
 use denote.Ref.{now}
 use Rattle.records.specs.Words.{word}
 use Rattle.sections.proofs.Parts.{Ended, some-end, ended-bytes, ended-size}
-use Rattle.files.specs.Files.{factCount, sectionOf, placeOfRole, indexOf, roles, tag}
+use Rattle.files.specs.Files.{factCount, placeOfRole, indexOf, rolesOf, roles, tag}
+use Rattle.sections.specs.declared.Role.the-variants.{Sizes}
+use Rattle.files.proofs.Roles.{always, section-there}
 use borrow.Author.Needs.{needs}
 use Rattle.files.proofs.Order.{sizes-end}
 use Rattle.files.proofs.model.facts_told.Statement.{statement}
@@ -33,8 +35,11 @@ word-at-requires : tie.Need-word-at-requires
 word-at-requires c κs = omega (arith, ended (c .before), ended-size _ 1 _ (ended (c .before)))
 
 returns-2 : tie.Need-returns-2
-unfolding factCount sectionOf placeOfRole indexOf roles tag
-returns-2 c = λ fine. c .word-at .ensures ∙ ap word (ended-bytes _ 1 _ (ended (c .before .before)))
+unfolding factCount placeOfRole indexOf rolesOf roles tag
+returns-2 c = λ fine.
+    let file = now (c .before .before .before .before .before .args .model) in
+    c .word-at .ensures ∙ ap word (ended-bytes _ 1 _ (ended (c .before .before)))
+    ∙ ap word (sym (section-there file Sizes (always file .sizes)))
 
 pub facts-told-spec : {M : Type 1} → statement M
 facts-told-spec =

@@ -1,5 +1,6 @@
--- `model::index_of` meets its contract: one case for each role.
-use Rattle.files.specs.Files.{roles, tag, indexOf}
+-- `model::index_of` meets its contract: one case for each role of each version.
+use Rattle.files.specs.Files.{tag, indexOf}
+use Rattle.files.proofs.Roles.{roles-one, roles-two}
 use borrow.Author.Needs.{needs}
 use Rattle.files.proofs.model.index_of.Statement.{statement}
 use Rattle.files.proofs.model.index_of.Tie as tie
@@ -19,25 +20,74 @@ enum-told-4 c = search needs
 enum-told-5 : tie.Need-enum-told-5
 enum-told-5 c = search needs
 
+enum-told-6 : tie.Need-enum-told-6
+enum-told-6 c = search needs
+
+enum-told-7 : tie.Need-enum-told-7
+enum-told-7 c = search needs
+
+enum-told-8 : tie.Need-enum-told-8
+enum-told-8 c = search needs
+
+enum-told-9 : tie.Need-enum-told-9
+enum-told-9 c = search needs
+
+enum-told-10 : tie.Need-enum-told-10
+enum-told-10 c = search needs
+
+enum-told-11 : tie.Need-enum-told-11
+enum-told-11 c = search needs
+
+enum-told-12 : tie.Need-enum-told-12
+enum-told-12 c = search needs
+
 returns : tie.Need-returns
-unfolding indexOf roles tag
-returns c = rw (c .enum-told .given .1)
+unfolding indexOf tag
+returns c = rw (roles-one _ (c .before .before .if1 .taken), c .enum-told .given .1)
 
 returns-2 : tie.Need-returns-2
-unfolding indexOf roles tag
-returns-2 c = rw (c .enum-told2 .given .1)
+unfolding indexOf tag
+returns-2 c = rw (roles-one _ (c .before .before .if1 .taken), c .enum-told2 .given .1)
 
 returns-3 : tie.Need-returns-3
-unfolding indexOf roles tag
-returns-3 c = rw (c .enum-told3 .given .1)
+unfolding indexOf tag
+returns-3 c = rw (roles-one _ (c .before .before .if1 .taken), c .enum-told3 .given .1)
 
 returns-4 : tie.Need-returns-4
-unfolding indexOf roles tag
-returns-4 c = rw (c .enum-told4 .given .1)
+unfolding indexOf tag
+returns-4 c = rw (roles-one _ (c .before .before .if1 .taken), c .enum-told4 .given .1)
 
 returns-5 : tie.Need-returns-5
-unfolding indexOf roles tag
-returns-5 c = rw (c .enum-told5 .given .1)
+unfolding indexOf tag
+returns-5 c = rw (roles-one _ (c .before .before .if1 .taken), c .enum-told5 .given .1)
+
+returns-6 : tie.Need-returns-6
+unfolding indexOf tag
+returns-6 c = rw (roles-one _ (c .before .before .if1 .taken), c .enum-told6 .given .1)
+
+returns-7 : tie.Need-returns-7
+unfolding indexOf tag
+returns-7 c = rw (roles-two _ (c .before .before .if1 .left), c .enum-told7 .given .1)
+
+returns-8 : tie.Need-returns-8
+unfolding indexOf tag
+returns-8 c = rw (roles-two _ (c .before .before .if1 .left), c .enum-told8 .given .1)
+
+returns-9 : tie.Need-returns-9
+unfolding indexOf tag
+returns-9 c = rw (roles-two _ (c .before .before .if1 .left), c .enum-told9 .given .1)
+
+returns-10 : tie.Need-returns-10
+unfolding indexOf tag
+returns-10 c = rw (roles-two _ (c .before .before .if1 .left), c .enum-told10 .given .1)
+
+returns-11 : tie.Need-returns-11
+unfolding indexOf tag
+returns-11 c = rw (roles-two _ (c .before .before .if1 .left), c .enum-told11 .given .1)
+
+returns-12 : tie.Need-returns-12
+unfolding indexOf tag
+returns-12 c = rw (roles-two _ (c .before .before .if1 .left), c .enum-told12 .given .1)
 
 pub index-of-spec : {M : Type 1} → statement M
 index-of-spec =
@@ -48,8 +98,22 @@ index-of-spec =
     enum-told-3
     enum-told-4
     enum-told-5
+    enum-told-6
+    enum-told-7
+    enum-told-8
+    enum-told-9
+    enum-told-10
+    enum-told-11
+    enum-told-12
     returns
     returns-2
     returns-3
     returns-4
-    returns-5)
+    returns-5
+    returns-6
+    returns-7
+    returns-8
+    returns-9
+    returns-10
+    returns-11
+    returns-12)

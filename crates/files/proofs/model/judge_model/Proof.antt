@@ -1,5 +1,4 @@
 -- `model::judge_model` meets its contract: its tests follow the chain of the model's faults.
-use Prim.Native.Nat.{ℕ}
 use mathlib.Core.Path.{_∙_}
 use denote.Ref.{now}
 use Rattle.records.specs.Records.{_orElse_}
@@ -11,8 +10,8 @@ use Rattle.files.proofs.model.judge_model.Statement.{statement}
 use Rattle.files.proofs.model.judge_model.Tie as tie
 
 -- what the number for size and version says
-head-of : (c : tie.After-head-number) → Head 65536 (now (c .before .before .args .model)) (c .head-number .result)
-head-of c = head-told 65536 _ (c .head-number .ensures)
+head-of : (c : tie.After-head-number) → Head 65536 2 (now (c .before .before .args .model)) (c .head-number .result)
+head-of c = head-told 65536 2 _ (c .head-number .ensures)
 
 head-number-requires : tie.Need-head-number-requires
 head-number-requires c κs = search needs

@@ -7,7 +7,7 @@ use Rattle.sections.specs.Sections.{endAt, payload, inSection, reader, entries}
 use Rattle.sections.specs.Answers.{passed}
 use Rattle.sections.specs.declared.Role.{Role}
 use Rattle.sections.specs.declared.Role.the-variants.{Goals}
-use Rattle.files.specs.Files.{roles}
+use Rattle.files.specs.Files.{rolesOf}
 use Rattle.files.proofs.Answers.{judged-some, judged-none}
 use borrow.Author.Needs.{needs}
 use Prim.Native.Nat.{ℕ, _-_, _≤_, _<_}
@@ -18,39 +18,56 @@ use Rattle.files.proofs.model.judge_shape.Statement.{statement}
 use Rattle.files.proofs.model.judge_shape.Tie as tie
 
 abbrev Inv-loop : tie.InvT-loop
-Inv-loop model facts counts₀ at₀ i₀ counts at i = Onward model facts i at counts
+Inv-loop model version sections facts counts₀ at₀ i₀ counts at i = Onward model facts i at counts
 
 abbrev μ-loop : tie.MeasureT-loop
-μ-loop model facts counts₀ at₀ i₀ counts at i = 5 - i
+μ-loop model version sections facts counts₀ at₀ i₀ counts at i = sections - i
+
+-- the model, the sections that its version has, and how many they are
+module _ (c : tie.At-loop Inv-loop μ-loop) where
+  abbrev file : List ℕ
+  file = now (c .before .before .before .before .before .args .model)
+
+  version-is : c .before .before .before .version-of .result ≡ getD file 0 0
+  version-is = c .before .before .before .version-of .ensures
+
+  count-is : c .before .before .section-count .result ≡ length (rolesOf file)
+  unfolding rolesOf
+  count-is = rw (← version-is) (c .before .before .section-count .ensures)
 
 -- where a section is judged
 module _ (c : tie.After-judge-section Inv-loop μ-loop) where
   abbrev loop : tie.At-loop Inv-loop μ-loop
   loop = c .before .before .before
 
-  abbrev file : List ℕ
-  file = now (loop .before .before .before .args .model)
-
   abbrev facts : ℕ
   facts = loop .before .facts-told .result
 
-  on : Onward file facts (loop .loop .i) (loop .loop .at) (loop .loop .counts)
+  on : Onward (file loop) facts (loop .loop .i) (loop .loop .at) (loop .loop .counts)
   on = loop .loop .inv
 
-  more : loop .loop .i < length roles
-  unfolding roles
-  more = c .before .before .loop-test .taken
+  more : loop .loop .i < length (rolesOf (file loop))
+  more = rw (← count-is loop) (c .before .before .loop-test .taken)
 
   abbrev role : Role
-  role = getD roles (loop .loop .i) Goals
+  role = getD (rolesOf (file loop)) (loop .loop .i) Goals
 
-  section-is : c .judge-section .result ≡ passed (inSection (reader role facts) file (loop .loop .at))
-      (endAt file (loop .loop .at)) (entries role (payload file (loop .loop .at)))
-  section-is = rw (c .before .role-at .ensures) at (c .judge-section .ensures)
+  role-is : c .before .role-at .result ≡ role
+  unfolding rolesOf
+  role-is = rw (← version-is loop) (c .before .role-at .ensures)
 
-all-sections : (c : tie.After-loop Inv-loop μ-loop) → length roles ≤ c .before .loop .i
-unfolding roles
-all-sections c = c .loop-test .left
+  section-is : c .judge-section .result ≡ passed (inSection (reader role facts) (file loop) (loop .loop .at))
+      (endAt (file loop) (loop .loop .at)) (entries role (payload (file loop) (loop .loop .at)))
+  section-is = rw role-is at (c .judge-section .ensures)
+
+all-sections : (c : tie.After-loop Inv-loop μ-loop) → length (rolesOf (file (c .before))) ≤ c .before .loop .i
+all-sections c = rw (← count-is (c .before)) (c .loop-test .left)
+
+version-of-requires : tie.Need-version-of-requires Inv-loop μ-loop
+version-of-requires c κs = search needs
+
+section-count-requires : tie.Need-section-count-requires Inv-loop μ-loop
+section-count-requires c κs = search needs
 
 facts-told-requires : tie.Need-facts-told-requires Inv-loop μ-loop
 facts-told-requires c κs = search needs
@@ -87,7 +104,7 @@ loop-less c = omega arith
 loop-again : tie.Need-loop-again Inv-loop μ-loop
 loop-again c =
     let asked = c .before .before .before .before in
-    rw (c .note .ensures, asked .before .role-at .ensures)
+    rw (c .note .ensures, role-is asked)
     (onward-next _ _ (on asked) (more asked) (section-is asked) (c .before .before .end .given .1))
 
 rest-fault-requires : tie.Need-rest-fault-requires Inv-loop μ-loop
@@ -110,6 +127,8 @@ judge-shape-spec =
     (tie.spec
     Inv-loop
     μ-loop
+    version-of-requires
+    section-count-requires
     facts-told-requires
     loop-holds
     role-at-requires

@@ -1,0 +1,143 @@
+-- Laws on the sections that a model of a version has: each role has one place among them, and some are in every
+-- version.
+use Prim.Native.Nat.{ℕ, zero, suc, _≤_, _<_}
+use mathlib.Core.Path.{_≡_, refl, sym, ap, subst, _∙_}
+use mathlib.Core.Logic.{⊎-elim}
+use mathlib.Core.Bool.{true, false, true≢false}
+use mathlib.Core.List.{List, [], _∷_}
+use native.Mathlib.Nat.{not-suc-le-zero, le-of-suc-le-suc}
+use native.Mathlib.Omega.{arith}
+use borrow.Author.Tests.{lt-ltb, ltb-true, eqb-true, lt-leb, le-leb}
+use lib.Dec.{ltb, eqb, lit<}
+use lib.ListN.{length, getD}
+use Rattle.sets.proofs.Laws.{by-test, below-or-from}
+use Rattle.sections.specs.Sections.{payload}
+use Rattle.sections.specs.declared.Role.{Role}
+use Rattle.sections.specs.declared.Role.the-variants.{Sizes, Initial, Persistent, Clauses, Rules, Goals}
+use Rattle.files.specs.Files.{since, roles, rolesOf, tag, indexOf, has, placeOfRole, sectionOf}
+use Rattle.files.specs.Causes.{There}
+
+-- ---- the versions
+
+abbrev pub one : List Role
+one = Sizes ∷ Initial ∷ Clauses ∷ Rules ∷ Goals ∷ []
+
+abbrev pub two : List Role
+two = Sizes ∷ Initial ∷ Persistent ∷ Clauses ∷ Rules ∷ Goals ∷ []
+
+-- the sections of version 1, and those of version 2
+pub roles-one : (version : ℕ) → version < 2 → roles version ≡ one
+unfolding roles since
+roles-one version h = rw (lt-leb 2 version h)
+
+pub roles-two : (version : ℕ) → 2 ≤ version → roles version ≡ two
+unfolding roles since
+roles-two version h = rw (le-leb 2 version h)
+
+-- Version 1 has no persistent facts.
+pub one-lacks : (file : List ℕ) → getD file 0 0 < 2 → has file Persistent ≡ false
+unfolding has rolesOf indexOf tag
+one-lacks file h =
+    subst (λ (rs : List Role). ltb (indexOf Persistent rs) (length rs) ≡ false) (sym (roles-one _ h)) refl
+
+-- What holds of the sections of both holds of every version's.
+pub by-version : (P : List Role → Type 0) → P one → P two → (version : ℕ) → P (roles version)
+by-version P first second version =
+    ⊎-elim (λ h. rw (roles-one version h) first) (λ h. rw (roles-two version h) second) (below-or-from version 2)
+
+-- the roles that every version has
+pub record Always (rs : List Role) : Type 0 where
+  pub sizes : indexOf Sizes rs < length rs
+  pub initial : indexOf Initial rs < length rs
+  pub clauses : indexOf Clauses rs < length rs
+  pub rules : indexOf Rules rs < length rs
+  pub goals : indexOf Goals rs < length rs
+
+pub always : (file : List ℕ) → Always (rolesOf file)
+unfolding rolesOf indexOf tag
+always file =
+    by-version Always
+    (record { sizes = lit< tt; initial = lit< tt; clauses = lit< tt; rules = lit< tt; goals = lit< tt })
+    (record { sizes = lit< tt; initial = lit< tt; clauses = lit< tt; rules = lit< tt; goals = lit< tt })
+    (getD file 0 0)
+
+-- A role that isn't in a model's version is that of the persistent facts.
+pub absent-role : (file : List ℕ) (r : Role) → has file r ≡ false → r ≡ Persistent
+unfolding has
+absent-role file Sizes e = absurd (true≢false (sym (lt-ltb _ _ (always file .sizes)) ∙ e))
+absent-role file Initial e = absurd (true≢false (sym (lt-ltb _ _ (always file .initial)) ∙ e))
+absent-role file Persistent e = refl
+absent-role file Clauses e = absurd (true≢false (sym (lt-ltb _ _ (always file .clauses)) ∙ e))
+absent-role file Rules e = absurd (true≢false (sym (lt-ltb _ _ (always file .rules)) ∙ e))
+absent-role file Goals e = absurd (true≢false (sym (lt-ltb _ _ (always file .goals)) ∙ e))
+
+-- ---- a role and its place
+
+-- the role of a number
+tagged : (r : Role) → getD two (tag r) Goals ≡ r
+unfolding tag
+tagged Sizes = refl
+tagged Initial = refl
+tagged Persistent = refl
+tagged Clauses = refl
+tagged Rules = refl
+tagged Goals = refl
+
+-- Roles of one number are one role.
+same-role : (r q : Role) → tag r ≡ tag q → r ≡ q
+same-role r q e = sym (tagged r) ∙ ap (λ n. getD two n Goals) e ∙ tagged q
+
+-- No place is past the last.
+pub index-within : (r : Role) (rs : List Role) → indexOf r rs ≤ length rs
+unfolding indexOf
+index-within r [] = omega arith
+index-within r (x ∷ xs) =
+    by-test (eqb (tag r) (tag x)) (λ e. rw e (omega arith)) (λ e. rw e (omega (arith, index-within r xs)))
+
+-- The role at a role's place is that role.
+pub role-there : (rs : List Role) (r : Role) → indexOf r rs < length rs → getD rs (indexOf r rs) Goals ≡ r
+unfolding indexOf
+role-there [] r h = absurd (not-suc-le-zero h)
+role-there (x ∷ xs) r h =
+    by-test (eqb (tag r) (tag x)) (λ e. rw e (sym (same-role r x (eqb-true _ _ e))))
+    (λ e. rw e (role-there xs r (le-of-suc-le-suc (rw e at h))))
+
+-- The place of the role at a place is that place.
+pub role-at : (version i : ℕ) → i < length (roles version) → indexOf (getD (roles version) i Goals) (roles version) ≡ i
+unfolding indexOf tag
+role-at = by-version (λ rs. (i : ℕ) → i < length rs → indexOf (getD rs i Goals) rs ≡ i) first second
+  where
+    first : (i : ℕ) → i < 5 → indexOf (getD one i Goals) one ≡ i
+    first zero h = refl
+    first (suc zero) h = refl
+    first (suc (suc zero)) h = refl
+    first (suc (suc (suc zero))) h = refl
+    first (suc (suc (suc (suc zero)))) h = refl
+    first (suc (suc (suc (suc (suc i))))) h = absurd (omega arith)
+
+    second : (i : ℕ) → i < 6 → indexOf (getD two i Goals) two ≡ i
+    second zero h = refl
+    second (suc zero) h = refl
+    second (suc (suc zero)) h = refl
+    second (suc (suc (suc zero))) h = refl
+    second (suc (suc (suc (suc zero)))) h = refl
+    second (suc (suc (suc (suc (suc zero))))) h = refl
+    second (suc (suc (suc (suc (suc (suc i)))))) h = absurd (omega arith)
+
+-- ---- a role's section
+
+module _ (file : List ℕ) (r : Role) where
+  -- Where the model has a section of the role, it is what stands at its place;
+  pub section-there : There file r → sectionOf file r ≡ payload file (placeOfRole file r)
+  unfolding sectionOf has
+  section-there h = rw (lt-ltb _ _ h)
+
+  -- where it has none, there is nothing.
+  pub section-absent : has file r ≡ false → sectionOf file r ≡ []
+  unfolding sectionOf
+  section-absent e = rw e
+
+  -- One of the two is so.
+  pub there-or-absent : {C : Type 0} → (There file r → C) → (has file r ≡ false → C) → C
+  unfolding has
+  there-or-absent there absent = by-test (has file r) (λ e. there (ltb-true _ _ e)) absent

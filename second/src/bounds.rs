@@ -2,10 +2,10 @@
 //! record of a full section, the last step, the last round. Then the same past the bound. Most have
 //! large numbers in all fields of the verdict besides.
 
-use crate::gen::{fields, raise, sorted, write_model, write_trace, Rng};
-use crate::read::{Attack, Clause, Model, Rule};
+use crate::board::{rule, Board, Files, Place, PLACES};
+use crate::gen::{fields, raise, write_model, Rng};
+use crate::read::{Attack, Rule};
 
-type Files = (Vec<u8>, Vec<u8>);
 type Kind = fn(Board) -> Files;
 
 /// Every turn has a pair of each of these kinds.
@@ -54,181 +54,6 @@ pub(crate) fn files(rng: &mut Rng, number: u64) -> Files {
         None => (&DEAR[turn % DEAR.len()], turn / DEAR.len(), 4_096),
     };
     kind(Board::new(rng, turn, facts as u16))
-}
-
-/// The lists that a record can have.
-#[derive(Clone, Copy)]
-enum Place {
-    Body,
-    P,
-    N,
-    A,
-    GoalP,
-    GoalN,
-}
-
-const PLACES: [Place; 6] = [Place::Body, Place::P, Place::N, Place::A, Place::GoalP, Place::GoalN];
-
-impl Place {
-    fn bound(self) -> usize {
-        if matches!(self, Place::Body) {
-            16
-        } else {
-            32
-        }
-    }
-
-    /// Whether the facts of the list are to be there.
-    fn wanted(self) -> bool {
-        matches!(self, Place::Body | Place::P | Place::GoalP)
-    }
-}
-
-/// A pair in the making. Facts come from `free`, so that nothing but what a kind puts there can decide.
-struct Board<'a> {
-    rng: &'a mut Rng,
-    turn: usize,
-    model: Model,
-    goal: usize,
-    steps: Vec<u16>,
-    free: Vec<u16>,
-}
-
-impl Board<'_> {
-    fn new(rng: &mut Rng, turn: usize, facts: u16) -> Board<'_> {
-        let mut free: Vec<u16> = (0..facts).collect();
-        rng.shuffle(&mut free);
-        // The first facts taken have the greatest among them, every other time.
-        if rng.one_in(2) {
-            free.retain(|f| f + 1 != facts);
-            free.push(facts - 1);
-        }
-        let model = Model { facts, ..Model::default() };
-        Board { rng, turn, model, goal: 0, steps: Vec::new(), free }
-    }
-
-    /// The next of `n` choices, turn by turn, so that none has to wait for luck.
-    fn each(&mut self, n: usize) -> usize {
-        let choice = self.turn % n;
-        self.turn /= n;
-        choice
-    }
-
-    /// Fewer facts, for the kinds with many steps: a small closure is a quick one.
-    fn facts(&mut self, facts: u16) {
-        self.model.facts = facts;
-        self.free.retain(|f| *f < facts);
-    }
-
-    /// Facts that nothing names yet, in any order.
-    fn loose(&mut self, count: usize) -> Vec<u16> {
-        self.free.split_off(self.free.len().saturating_sub(count))
-    }
-
-    fn take(&mut self, count: usize) -> Vec<u16> {
-        sorted(self.loose(count))
-    }
-
-    fn one(&mut self) -> u16 {
-        self.free.pop().expect("there are more facts than a kind takes")
-    }
-
-    fn store(&mut self, facts: &[u16]) {
-        self.model.initial.extend(facts);
-    }
-
-    /// The fact of a list that decides: mostly the last.
-    fn odd_one(&mut self, list: &[u16]) -> Option<u16> {
-        match self.each(4) {
-            0 | 2 => list.last().copied(),
-            1 => Some(list[self.rng.below(list.len())]),
-            _ => None,
-        }
-    }
-
-    /// Stores a list's facts so that one of them decides whether its record holds.
-    fn store_around(&mut self, place: Place, list: &[u16]) {
-        let odd = self.odd_one(list);
-        let stored = list.iter().filter(|f| (odd == Some(**f)) != place.wanted());
-        self.model.initial.extend(stored);
-    }
-
-    fn clause(&mut self, head: u16, body: &[u16]) {
-        self.model.clauses.push(Clause { head, body: body.to_vec() });
-    }
-
-    /// A new rule, and a step that names it.
-    fn step(&mut self, rule: Rule) {
-        self.steps.push(self.model.rules.len() as u16);
-        self.model.rules.push(rule);
-    }
-
-    fn aim(&mut self, pos: &[u16], neg: &[u16]) {
-        self.goal = self.model.attacks.len();
-        self.model.attacks.push(Attack { pos: pos.to_vec(), neg: neg.to_vec() });
-    }
-
-    /// Puts a list where the verdict hangs on it.
-    fn put(&mut self, place: Place, list: &[u16]) {
-        let facts = list.to_vec();
-        match place {
-            Place::Body => {
-                let head = self.one();
-                self.clause(head, list);
-                self.aim(&[head], &[]);
-            }
-            Place::P => self.step(Rule { pos: facts, ..Rule::default() }),
-            Place::N => self.step(Rule { neg: facts, ..Rule::default() }),
-            Place::A => {
-                self.step(Rule { add: facts, ..Rule::default() });
-                self.aim(&list[list.len() - 1..], &[]);
-            }
-            Place::GoalP => self.aim(list, &[]),
-            Place::GoalN => self.aim(&[], list),
-        }
-    }
-
-    /// Each fact from the one before it: as many rounds as clauses, in whatever order they stand.
-    fn chain(&mut self, facts: &[u16]) {
-        self.store(&facts[..1]);
-        let mut clauses: Vec<Clause> =
-            facts.windows(2).map(|two| Clause { head: two[1], body: vec![two[0]] }).collect();
-        match self.rng.below(3) {
-            0 => clauses.reverse(),
-            1 => self.rng.shuffle(&mut clauses),
-            _ => {}
-        }
-        self.model.clauses.extend(clauses);
-    }
-
-    /// Over 255 facts to be held.
-    fn hoard(&mut self) {
-        let stored = 256 + self.rng.below(60);
-        let stored = self.take(stored);
-        self.store(&stored);
-    }
-
-    /// Over 255 facts to be held, and over 255 rounds.
-    fn crowd(&mut self) {
-        self.hoard();
-        let length = 257 + self.rng.below(40);
-        let links = self.loose(length);
-        self.chain(&links);
-    }
-
-    /// The two files; a model without an attack state gets one that is always met.
-    fn files(mut self) -> Files {
-        if self.model.attacks.is_empty() {
-            self.aim(&[], &[]);
-        }
-        self.model.initial.sort_unstable();
-        self.written()
-    }
-
-    /// The two files, the initial facts as they are.
-    fn written(self) -> Files {
-        (write_model(&self.model), write_trace(self.goal as u16, &self.steps))
-    }
 }
 
 // At the bounds.
@@ -349,10 +174,6 @@ fn many_stored(mut b: Board) -> Files {
         _ => b.aim(last, last),
     }
     b.files()
-}
-
-fn rule(pos: &[u16], add: &[u16]) -> Rule {
-    Rule { pos: pos.into(), neg: vec![], add: add.into() }
 }
 
 /// A fact goes to and fro, step by step; the last step wins, is blocked, or does not help.

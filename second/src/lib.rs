@@ -1,6 +1,7 @@
 //! A second trace checker, written from the rules alone so that two programs can be compared.
 //! It reads everything into owned lists, works on sets, and writes the lent buffers at the very end.
 
+mod board;
 mod bounds;
 pub mod close;
 mod count;

@@ -107,9 +107,12 @@ pub fn start_state(seed: u64, index: u64, facts: usize) -> Vec<u8> {
 // Writers. They write what they are given, faults included.
 
 pub fn write_model(model: &Model) -> Vec<u8> {
-    let mut out = vec![1];
+    let mut out = vec![if model.persistent.is_some() { 2 } else { 1 }];
     section(&mut out, |out| word(out, model.facts as usize));
     section(&mut out, |out| words(out, &model.initial));
+    if let Some(persistent) = &model.persistent {
+        section(&mut out, |out| words(out, persistent));
+    }
     section(&mut out, |out| {
         for c in &model.clauses {
             word(out, 2 + 2 * c.body.len());

@@ -150,6 +150,7 @@ struct End {
 fn run(parsed: &Parsed) -> End {
     let Parsed { model, trace, attack_places } = parsed;
     let mut stored: BTreeSet<u16> = model.initial.iter().copied().collect();
+    let persistent: BTreeSet<u16> = model.persistent.iter().flatten().copied().collect();
     let (mut rounds, mut numbers) = close(model, &stored);
     for (step, &name) in trace.steps.iter().enumerate() {
         let rule = &model.rules[name as usize];
@@ -161,7 +162,7 @@ fn run(parsed: &Parsed) -> End {
             let verdict = Verdict { step, fact, rounds, held, kind, round, ..refusal(fault) };
             return End { stored, numbers, verdict };
         }
-        stored = next_state(&stored, rule);
+        stored = next_state(&stored, rule, &persistent);
         let (more, anew) = close(model, &stored);
         rounds += more;
         numbers = anew;
@@ -189,9 +190,10 @@ fn first_unmet(pos: &[u16], neg: &[u16], numbers: &[u16]) -> Option<Unmet> {
     Some(Unmet { kind: NEGATIVE, fact, round: numbers[fact as usize] })
 }
 
-/// Removal first, so that a fact in both P and A stays stored.
-fn next_state(stored: &BTreeSet<u16>, rule: &Rule) -> BTreeSet<u16> {
-    let kept = stored.iter().filter(|f| !rule.pos.contains(f));
+/// Removal first, so that a fact in both P and A stays stored. A persistent fact of P is left as it
+/// is, stored or only derived.
+fn next_state(stored: &BTreeSet<u16>, rule: &Rule, persistent: &BTreeSet<u16>) -> BTreeSet<u16> {
+    let kept = stored.iter().filter(|f| !rule.pos.contains(f) || persistent.contains(f));
     kept.chain(&rule.add).copied().collect()
 }
 

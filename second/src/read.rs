@@ -25,6 +25,8 @@ pub struct Attack {
 pub struct Model {
     pub facts: u16,
     pub initial: Vec<u16>,
+    /// Version 2 has the section, even if it is empty; version 1 has none.
+    pub persistent: Option<Vec<u16>>,
     pub clauses: Vec<Clause>,
     pub rules: Vec<Rule>,
     pub attacks: Vec<Attack>,
@@ -78,12 +80,16 @@ fn in_trace((number, Part { start, len }): Fail) -> Fault {
     Fault { number, mark: TRACE, start, len }
 }
 
+/// The first bytes that there are.
+const MODEL_VERSIONS: &[u8] = &[1, 2];
+const TRACE_VERSIONS: &[u8] = &[1];
+
 /// Everything judged before the first step, buffers apart: numbers 2 to 9.
 pub fn parse(model: &[u8], trace: &[u8]) -> Result<Parsed, Fault> {
     judge_size(model, 65_536).map_err(in_model)?;
     judge_size(trace, 4_096).map_err(in_trace)?;
-    judge_version(model).map_err(in_model)?;
-    judge_version(trace).map_err(in_trace)?;
+    judge_version(model, MODEL_VERSIONS).map_err(in_model)?;
+    judge_version(trace, TRACE_VERSIONS).map_err(in_trace)?;
     let (model, attack_places) = read_model(model).map_err(in_model)?;
     let trace = read_trace(trace, &model).map_err(in_trace)?;
     Ok(Parsed { model, trace, attack_places })
@@ -92,7 +98,7 @@ pub fn parse(model: &[u8], trace: &[u8]) -> Result<Parsed, Fault> {
 /// The model's share of that, numbers 2 to 7, for closing called by itself.
 pub fn parse_model(model: &[u8]) -> Result<Model, Fault> {
     judge_size(model, 65_536).map_err(in_model)?;
-    judge_version(model).map_err(in_model)?;
+    judge_version(model, MODEL_VERSIONS).map_err(in_model)?;
     let (model, _) = read_model(model).map_err(in_model)?;
     Ok(model)
 }
@@ -101,8 +107,9 @@ fn judge_size(file: &[u8], most: usize) -> Result<(), Fail> {
     fail_if(file.len() > most, LONG, rest_of(file, 0))
 }
 
-fn judge_version(file: &[u8]) -> Result<(), Fail> {
-    fail_if(file.first() != Some(&1), VERSION, Part { start: 0, len: file.len().min(1) })
+fn judge_version(file: &[u8], known: &[u8]) -> Result<(), Fail> {
+    let is_known = file.first().is_some_and(|version| known.contains(version));
+    fail_if(!is_known, VERSION, Part { start: 0, len: file.len().min(1) })
 }
 
 fn rest_of(file: &[u8], start: usize) -> Part {
@@ -133,9 +140,9 @@ fn ascending(list: &[u16]) -> bool {
 fn read_model(file: &[u8]) -> Result<(Model, Vec<Part>), Fail> {
     let sizes = section(file, 1)?;
     let facts = read_sizes(sizes.of(file), sizes)?;
-    let start = section(file, sizes.end())?;
-    let initial = read_initial(start.of(file), start, facts)?;
-    let (end, clauses) = read_records(file, start.end(), facts, &CLAUSE)?;
+    let (end, initial) = read_facts(file, sizes.end(), facts)?;
+    let (end, persistent) = read_persistent(file, end, facts)?;
+    let (end, clauses) = read_records(file, end.end(), facts, &CLAUSE)?;
     let (end, rules) = read_records(file, end.end(), facts, &RULE)?;
     let (end, attacks) = read_records(file, end.end(), facts, &ATTACK_STATE)?;
     judge_tail(file, end)?;
@@ -144,6 +151,7 @@ fn read_model(file: &[u8]) -> Result<(Model, Vec<Part>), Fail> {
     let model = Model {
         facts,
         initial,
+        persistent,
         clauses: clauses.into_iter().map(|(_, split)| clause(split)).collect(),
         rules: rules.into_iter().map(|(_, split)| rule(split)).collect(),
         attacks: attacks.into_iter().map(|(_, split)| attack(split)).collect(),
@@ -153,9 +161,20 @@ fn read_model(file: &[u8]) -> Result<(Model, Vec<Part>), Fail> {
 
 /// Where the clause section's bytes lie in a model already found well-formed.
 pub(crate) fn clause_section(model: &[u8]) -> Option<Part> {
-    let sizes = section(model, 1).ok()?;
-    let initial = section(model, sizes.end()).ok()?;
-    section(model, initial.end()).ok()
+    let mut part = section(model, 1).ok()?;
+    for _ in 1..bare_sections(model) {
+        part = section(model, part.end()).ok()?;
+    }
+    section(model, part.end()).ok()
+}
+
+/// How many sections of bare numbers a model has, which stand before the clauses.
+pub(crate) fn bare_sections(model: &[u8]) -> usize {
+    if model.first() == Some(&2) {
+        3
+    } else {
+        2
+    }
 }
 
 fn read_sizes(bytes: &[u8], part: Part) -> Result<u16, Fail> {
@@ -165,12 +184,27 @@ fn read_sizes(bytes: &[u8], part: Part) -> Result<u16, Fail> {
     Ok(facts)
 }
 
-fn read_initial(bytes: &[u8], part: Part, facts: u16) -> Result<Vec<u16>, Fail> {
-    fail_if(bytes.len() % 2 == 1, SHAPE, part)?;
-    let initial = numbers(bytes);
-    fail_if(initial.iter().any(|f| *f >= facts), FACT, part)?;
-    fail_if(!ascending(&initial), ORDER, part)?;
-    Ok(initial)
+/// The section whose length stands at `at`, as a list of facts.
+fn read_facts(file: &[u8], at: usize, facts: u16) -> Result<(Part, Vec<u16>), Fail> {
+    let part = section(file, at)?;
+    fail_if(part.len % 2 == 1, SHAPE, part)?;
+    let list = numbers(part.of(file));
+    fail_if(list.iter().any(|f| *f >= facts), FACT, part)?;
+    fail_if(!ascending(&list), ORDER, part)?;
+    Ok((part, list))
+}
+
+/// The section after the initial facts, which only version 2 has; and the last section read.
+fn read_persistent(
+    file: &[u8],
+    initial: Part,
+    facts: u16,
+) -> Result<(Part, Option<Vec<u16>>), Fail> {
+    if file[0] != 2 {
+        return Ok((initial, None));
+    }
+    let (part, list) = read_facts(file, initial.end(), facts)?;
+    Ok((part, Some(list)))
 }
 
 /// A record taken apart: a clause has a head and one list, the others only lists.

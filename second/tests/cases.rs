@@ -10,6 +10,7 @@ fn desk_bytes() {
     let desk = Model {
         facts: 6,
         initial: vec![0, 1, 4],
+        persistent: None,
         clauses: vec![clause(2, &[0, 1]), clause(5, &[2, 4])],
         rules: vec![rule(&[5], &[3], &[3]), rule(&[0], &[], &[]), rule(&[1], &[], &[1])],
         attacks: vec![attack(&[3, 5], &[]), attack(&[4], &[0])],

@@ -91,10 +91,10 @@ pub fn judge(model: &[u8]) -> u8 {
     if model.len() > 65_536 {
         return 2;
     }
-    if model.first() != Some(&1) {
-        return 3;
+    match model.first() {
+        Some(version @ (1 | 2)) => judge_sections(*version, &model[1..]).err().unwrap_or(0),
+        _ => 3,
     }
-    judge_sections(&model[1..]).err().unwrap_or(0)
 }
 
 fn none(number: u8) -> Result<(), u8> {
@@ -105,13 +105,16 @@ fn none(number: u8) -> Result<(), u8> {
     }
 }
 
-fn judge_sections(mut rest: &[u8]) -> Result<(), u8> {
+fn judge_sections(version: u8, mut rest: &[u8]) -> Result<(), u8> {
     let sizes = section(&mut rest).ok_or(4)?;
     none(if sizes.len() == 2 { 0 } else { 4 })?;
     let facts = word(sizes);
     none(if facts > 4_096 { 5 } else { 0 })?;
-    let initial = section(&mut rest).ok_or(4)?;
-    none(if initial.len() % 2 == 1 { 4 } else { list_fault(initial, facts) })?;
+    // Version 2 has its persistent facts after the initial ones.
+    for _ in 0..if version == 2 { 2 } else { 1 } {
+        let bare = section(&mut rest).ok_or(4)?;
+        none(if bare.len() % 2 == 1 { 4 } else { list_fault(bare, facts) })?;
+    }
     let clauses = section(&mut rest).ok_or(4)?;
     none(records(clauses, 4_096, |clause| clause_fault(clause, facts)))?;
     let rules = section(&mut rest).ok_or(4)?;

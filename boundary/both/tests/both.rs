@@ -1,5 +1,5 @@
 //! The second program's own tests, run through both programs: cases A to L, the edges, every fault and every two faults
-//! together.
+//! together, version 2.
 //! Those tests say `second`; here that is this file, whose `check`, `close_api` and `count_api` make each call of both
 //! and compare.
 
@@ -10,6 +10,8 @@ extern crate self as second;
 mod cases;
 #[path = "../../../second/tests/faults.rs"]
 mod faults;
+#[path = "../../../second/tests/persistent.rs"]
+mod persistent;
 
 pub use other::*;
 

@@ -25,10 +25,10 @@ fn plain_lists() -> Lists {
     let rule = Rule { pos: vec![0], ..Rule::default() };
     let model = Model {
         facts: 40,
-        initial: vec![],
         clauses: vec![clause],
         rules: vec![rule],
         attacks: vec![Attack::default()],
+        ..Model::default()
     };
     Lists { model, goal: 0, steps: vec![0] }
 }

@@ -218,6 +218,7 @@ fn desk() -> Model {
             Attack { pos: vec![3, 5], neg: vec![] },
             Attack { pos: vec![4], neg: vec![0] },
         ],
+        ..Model::default()
     }
 }
 
@@ -229,6 +230,7 @@ fn with(facts: u16, initial: Vec<u16>, clauses: Vec<Clause>) -> Model {
         clauses,
         rules: vec![Rule::default()],
         attacks: vec![Attack::default()],
+        ..Model::default()
     }
 }
 

@@ -53,7 +53,10 @@ impl Board<'_> {
             free.retain(|f| f + 1 != facts);
             free.push(facts - 1);
         }
-        let model = Model { facts, ..Model::default() };
+        // The facts taken last: these decide nothing unless a kind says so.
+        let count = rng.of(&[0, 1, 40]);
+        let persistent = rng.one_in(2).then(|| sorted(free[..count].to_vec()));
+        let model = Model { facts, persistent, ..Model::default() };
         Board { rng, turn, model, goal: 0, steps: Vec::new(), free }
     }
 
@@ -68,6 +71,7 @@ impl Board<'_> {
     pub(crate) fn facts(&mut self, facts: u16) {
         self.model.facts = facts;
         self.free.retain(|f| *f < facts);
+        self.model.persistent.iter_mut().for_each(|list| list.retain(|f| *f < facts));
     }
 
     /// Facts that nothing names yet, in any order.
@@ -85,6 +89,11 @@ impl Board<'_> {
 
     pub(crate) fn store(&mut self, facts: &[u16]) {
         self.model.initial.extend(facts);
+    }
+
+    /// Version 2, with these persistent facts.
+    pub(crate) fn keep(&mut self, facts: &[u16]) {
+        self.model.persistent = Some(sorted(facts.to_vec()));
     }
 
     /// The fact of a list that decides: mostly the last.

@@ -4,6 +4,7 @@
 
 use crate::board::{rule, Board, Files, Place, PLACES};
 use crate::gen::{fields, raise, write_model, Rng};
+use crate::lasting;
 use crate::read::{Attack, Rule};
 
 type Kind = fn(Board) -> Files;
@@ -38,6 +39,14 @@ const KINDS: &[Kind] = &[
     whole_model,
     whole_trace,
     shape,
+    lasting::one_of_all,
+    lasting::one_of_some,
+    lasting::full_p,
+    lasting::derived,
+    lasting::added,
+    lasting::misshapen,
+    lasting::misnumbered,
+    lasting::other_version,
 ];
 
 /// And a pair of one of these, which cost some hundredths of a second each.
@@ -439,7 +448,7 @@ fn shape(mut b: Board) -> Files {
         b.put(place, &list);
     }
     b.crowd();
-    let from_end = b.rng.below(5);
+    let from_end = b.rng.below(6);
     let (mut model, mut trace) = b.files();
     let file = if of_model { &mut model } else { &mut trace };
     let such: Vec<_> = fields(file, of_model).into_iter().filter(|f| f.wide == wide).collect();

@@ -2,8 +2,9 @@
 //! A pair depends on its seed and index alone, so any one of a stream can be made again.
 
 use crate::bounds;
-use crate::read::{Attack, Clause, Model, Rule};
+use crate::read::{bare_sections, Attack, Clause, Model, Rule};
 use crate::{STATE_BYTES, TABLE_ENTRIES};
+use std::collections::BTreeSet;
 
 /// Splitmix64.
 pub struct Rng(u64);
@@ -53,7 +54,7 @@ impl Pair {
 }
 
 /// One pair in so many of the mixed stream is at a bound, the last of them.
-pub const AT_BOUNDS: u64 = 32;
+pub const AT_BOUNDS: u64 = 25;
 
 /// The mixed stream: a bit under half sound, the rest damaged or at the bounds, now and then too
 /// little room.
@@ -192,6 +193,7 @@ fn sound_lists(rng: &mut Rng) -> (Model, Vec<u16>) {
     let mut model = Model { facts: size.facts as u16, ..Model::default() };
     let count = rng.below(6);
     model.initial = pick(rng, count, size.facts, |_| true);
+    model.persistent = some_persistent(rng, size.facts);
     model.clauses = some_clauses(rng, &size, &model.initial);
     let mut story = Story { rng, size, model, known: Vec::new() };
     let mut names = story.steps();
@@ -210,6 +212,16 @@ pub(crate) fn sorted(mut list: Vec<u16>) -> Vec<u16> {
     list.sort_unstable();
     list.dedup();
     list
+}
+
+/// Every other model is of version 2; of its facts none, all or about half are persistent.
+fn some_persistent(rng: &mut Rng, facts: usize) -> Option<Vec<u16>> {
+    if rng.one_in(2) {
+        return None;
+    }
+    let share = rng.below(8);
+    let mut is_in = |_: &u16| share > 0 && (share == 1 || rng.one_in(2));
+    Some((0..facts as u16).filter(&mut is_in).collect())
 }
 
 fn some_clauses(rng: &mut Rng, size: &Size, initial: &[u16]) -> Vec<Clause> {
@@ -282,6 +294,7 @@ impl Story<'_> {
     fn steps(&mut self) -> Vec<u16> {
         let mut state = vec![false; self.size.facts];
         self.model.initial.iter().for_each(|f| state[*f as usize] = true);
+        let persistent: BTreeSet<u16> = self.model.persistent.iter().flatten().copied().collect();
         self.known = reach(&self.model.clauses, &state);
         for _ in 0..self.rng.below(3) {
             let idle = self.rule(false);
@@ -299,7 +312,8 @@ impl Story<'_> {
                 break;
             }
             let rule = &self.model.rules[name];
-            rule.pos.iter().for_each(|f| state[*f as usize] = false);
+            let goes = rule.pos.iter().filter(|f| !persistent.contains(f));
+            goes.for_each(|f| state[*f as usize] = false);
             rule.add.iter().for_each(|f| state[*f as usize] = true);
             self.known = reach(&self.model.clauses, &state);
         }
@@ -334,8 +348,9 @@ impl Story<'_> {
         let (pos, neg) = self.conditions(fit);
         let count = self.list_size();
         let mut add = pick(self.rng, count, self.size.facts, |_| true);
-        // Often P is written back, as for facts that aren't used up.
-        if self.rng.one_in(2) && add.len() + pos.len() <= 32 {
+        // Often P is written back, as for facts that aren't used up; version 2 has another way.
+        let times = if self.model.persistent.is_some() { 4 } else { 2 };
+        if self.rng.one_in(times) && add.len() + pos.len() <= 32 {
             add.extend(&pos);
         }
         Rule { pos, neg, add: sorted(add) }
@@ -356,9 +371,19 @@ impl Story<'_> {
         }
         let (fit_pos, fit_neg) = (fit || self.rng.one_in(3), fit || self.rng.one_in(3));
         let (p, n, facts) = (self.list_size(), self.list_size(), self.size.facts);
-        let pos = pick(self.rng, p, facts, |f| !fit_pos || self.known[f]);
+        let pos = match fit_pos && self.rng.one_in(2) {
+            true => self.known_ones(p),
+            false => pick(self.rng, p, facts, |f| !fit_pos || self.known[f]),
+        };
         let neg = pick(self.rng, n, facts, |f| !(fit_neg && self.known[f]));
         (pos, neg)
+    }
+
+    /// Up to `count` facts of the latest closure, ascending.
+    fn known_ones(&mut self, count: usize) -> Vec<u16> {
+        let known: Vec<usize> = (0..self.known.len()).filter(|f| self.known[*f]).collect();
+        let chosen = pick(self.rng, count, known.len(), |_| true);
+        chosen.iter().map(|at| known[*at as usize] as u16).collect()
     }
 
     /// N is a clause's head. P is empty, has the same fact, or takes away what gives it.
@@ -419,8 +444,13 @@ fn spoil_lists(rng: &mut Rng, model: &mut Model, names: &mut Vec<u16>) {
     }
 }
 
+/// One of the lists; every third time the persistent facts, where the model has them.
 fn any_list<'a>(rng: &mut Rng, model: &'a mut Model) -> &'a mut Vec<u16> {
     let mut all = vec![&mut model.initial];
+    all.extend(&mut model.persistent);
+    if all.len() == 2 && rng.one_in(3) {
+        return all.swap_remove(1);
+    }
     all.extend(model.clauses.iter_mut().map(|c| &mut c.body));
     model.rules.iter_mut().for_each(|r| all.extend([&mut r.pos, &mut r.neg, &mut r.add]));
     model.attacks.iter_mut().for_each(|a| all.extend([&mut a.pos, &mut a.neg]));
@@ -473,7 +503,7 @@ fn many_records(rng: &mut Rng, model: &mut Model, over: usize) {
 
 /// A length or count in the file; `end` is where the bytes it covers end, for lengths.
 pub(crate) struct Field {
-    at: usize,
+    pub(crate) at: usize,
     pub(crate) wide: usize,
     end: usize,
 }
@@ -483,7 +513,7 @@ fn number_at(file: &[u8], at: usize, wide: usize) -> Option<usize> {
     Some(bytes.iter().fold(0, |value, byte| value << 8 | *byte as usize))
 }
 
-fn set_number(file: &mut [u8], field: &Field, value: usize) {
+pub(crate) fn set_number(file: &mut [u8], field: &Field, value: usize) {
     let bytes = (value as u32).to_be_bytes();
     file[field.at..field.at + field.wide].copy_from_slice(&bytes[4 - field.wide..]);
 }
@@ -498,12 +528,13 @@ pub(crate) fn raise(file: &mut [u8], field: &Field, more: usize) {
 pub(crate) fn fields(file: &[u8], is_model: bool) -> Vec<Field> {
     let mut out = Vec::new();
     let mut at = 1;
-    for index in 0..if is_model { 5 } else { 1 } {
+    let bare = bare_sections(file);
+    for index in 0..if is_model { bare + 3 } else { 1 } {
         let Some(len) = number_at(file, at, 4) else { break };
         let end = file.len().min(at + 4 + len);
         out.push(Field { at, wide: 4, end });
-        if index >= 2 {
-            record_fields(&file[..end], at + 4, index > 2, &mut out);
+        if index >= bare {
+            record_fields(&file[..end], at + 4, index > bare, &mut out);
         }
         at = end;
     }
@@ -529,7 +560,7 @@ fn spoil_bytes(rng: &mut Rng, file: &mut Vec<u8>, is_model: bool) {
     }
     let at = rng.below(file.len());
     let some = (1 + rng.below(4)).min(file.len() - at);
-    match rng.below(20) {
+    match rng.below(22) {
         0 => file[at] ^= 1 << rng.below(8),
         1 => file[at] = rng.draw() as u8,
         2 => file.truncate(at),
@@ -539,16 +570,26 @@ fn spoil_bytes(rng: &mut Rng, file: &mut Vec<u8>, is_model: bool) {
         6 => drop(file.splice(at..at, file[at..at + some].to_vec())),
         7..=11 => spoil_field(rng, file, is_model),
         12..=15 => mended_cut(rng, file, is_model),
-        16 => file[0] = rng.of(&[0, 2, 255]) as u8,
-        17 if rng.one_in(2) => file.clear(),
-        17 => file.extend([0; 3]),
+        16..=18 => other_version(rng, file, is_model),
+        19 if rng.one_in(2) => file.clear(),
+        19 => file.extend([0; 3]),
         _ => file.resize(if is_model { 65_536 } else { 4_096 } + rng.of(&[0, 1, 1, 2, 100]), 0),
     }
 }
 
+/// A version that there isn't, or the one of the other layout.
+fn other_version(rng: &mut Rng, file: &mut [u8], is_model: bool) {
+    let other = if file[0] == 1 { 2 } else { 1 };
+    let choices = if is_model { [0, 3, 255, other] } else { [0, 2, 2, 2] };
+    file[0] = rng.of(&choices) as u8;
+}
+
 fn spoil_field(rng: &mut Rng, file: &mut [u8], is_model: bool) {
     let all = fields(file, is_model);
-    let Some(field) = all.get(rng.below(all.len())) else { return };
+    // Every third time the length of the persistent facts, where the model has them.
+    let persistent = is_model && bare_sections(file) == 3 && rng.one_in(3);
+    let at = if persistent { 2 } else { rng.below(all.len()) };
+    let Some(field) = all.get(at) else { return };
     let value = number_at(file, field.at, field.wide).unwrap_or(0);
     let choices = [value + 1, value + 1, value.wrapping_sub(1), value + 2, 0, 0xFFFF_FFFF, 0x8000];
     set_number(file, field, rng.of(&choices));

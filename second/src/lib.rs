@@ -6,6 +6,7 @@ mod bounds;
 pub mod close;
 mod count;
 pub mod gen;
+mod lasting;
 pub mod read;
 mod tally;
 

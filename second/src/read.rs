@@ -168,6 +168,20 @@ pub(crate) fn clause_section(model: &[u8]) -> Option<Part> {
     section(model, part.end()).ok()
 }
 
+/// The bytes of the persistent facts, or the rest from their length on where that doesn't fit. An
+/// empty section has none.
+pub(crate) fn persistent_part(model: &[u8]) -> Option<Part> {
+    if bare_sections(model) < 3 {
+        return None;
+    }
+    let sizes = section(model, 1).ok()?;
+    let initial = section(model, sizes.end()).ok()?;
+    match section(model, initial.end()) {
+        Ok(part) => Some(part).filter(|part| part.len > 0),
+        Err((_, rest)) => Some(rest),
+    }
+}
+
 /// How many sections of bare numbers a model has, which stand before the clauses.
 pub(crate) fn bare_sections(model: &[u8]) -> usize {
     if model.first() == Some(&2) {

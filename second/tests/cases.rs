@@ -298,7 +298,7 @@ fn the_stream_is_mixed_and_repeatable() {
         assert_eq!(pair, gen::pair(2, index));
         let v = judge_in(&pair.model, &pair.trace, pair.state_len, pair.table_len);
         assert_ne!(v.number, NEGATED);
-        tally.add(&v);
+        tally.add(&pair, &v);
         let sound = gen::sound(2, index);
         let number = judge(&sound.model, &sound.trace).number;
         assert!([ATTACK, BLOCKED, NOATTACK].contains(&number));

@@ -1,4 +1,4 @@
-//! `shares SEED COUNT`: how often each verdict number comes up in the mixed stream.
+//! `shares SEED COUNT`: what comes up how often in the mixed stream.
 
 use second::{check, gen, Tally};
 use std::time::{Duration, Instant};
@@ -19,7 +19,7 @@ fn main() {
         let begun = Instant::now();
         let verdict = check(&pair.model, &pair.trace, &mut state, &mut table);
         checking += begun.elapsed();
-        tally.add(&verdict);
+        tally.add(&pair, &verdict);
     }
     tally.print();
     let each = |all: Duration| all.as_secs_f64() * 1e6 / count as f64;

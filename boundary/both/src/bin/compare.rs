@@ -40,7 +40,7 @@ fn child(seed: u64, count: u64, place: &Path) -> i32 {
         place.set(index);
         let pair = gen::pair(seed, index);
         match compare(&pair, seed, index) {
-            Ok(verdict) => tally.add(&verdict),
+            Ok(verdict) => tally.add(&pair, &verdict),
             Err(difference) => {
                 println!("pair {index} of seed {seed}: {difference}");
                 answers(&pair, seed, index);

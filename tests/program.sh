@@ -1,7 +1,7 @@
 #!/usr/bin/env bash
 # Tests document 01's program, target/bin/cantivorex, as it is run: on case.model and case.trace of its folder. The
-# expected lines are document 01's, written here by hand. Ends in 'N passed, M failed', and exits non-zero unless all
-# passed.
+# expected lines are documents 01's and 02's, written here by hand. Ends in 'N passed, M failed', and exits non-zero
+# unless all passed.
 set -u
 . "$(dirname "${BASH_SOURCE[0]}")/checks.sh"
 program=$root/target/bin/cantivorex
@@ -34,6 +34,21 @@ test_samples() {
     while IFS='|' read -r name line; do
         same "case $name" "$line" "$(line_of "$desk" "$root/samples/$name.trace")"
     done <<<"$desk_lines"
+}
+
+# Version 2: what holds only through a clause is neither removed nor stored, if it is persistent. Version 3 there isn't.
+test_version_2() {
+    local folder=$root/samples/mandate
+    same 'a derived fact that is added again outlives its derivation' \
+        'ATTACK step 2 fact none rounds 1 held 1 kind none round none' \
+        "$(line_of "$folder/added.model" "$folder/revoked.trace")"
+    same 'a derived fact that is persistent goes with its derivation' \
+        'NOATTACK step 2 fact 1 rounds 2 held 0 kind positive round none' \
+        "$(line_of "$folder/persistent.model" "$folder/revoked.trace")"
+    { bytes 03; tail -c +2 "$folder/persistent.model"; } >"$tmp/three.model"
+    same 'version 3 of a model' "$(refused VERSION)" "$(line_of "$tmp/three.model" "$folder/revoked.trace")"
+    { bytes 02; tail -c +2 "$folder/revoked.trace"; } >"$tmp/two.trace"
+    same 'version 2 of a trace' "$(refused VERSION)" "$(line_of "$folder/persistent.model" "$tmp/two.trace")"
 }
 
 # small NAME MODEL LINE: a model without rules, and a trace that asks for attack state 0 without steps.
@@ -181,6 +196,7 @@ test_sizes() {
 }
 
 test_samples
+test_version_2
 test_small_models
 test_names
 test_missing_files

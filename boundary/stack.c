@@ -22,11 +22,12 @@ static uint8_t state[CANTIVOREX_STATE_BYTES], part[65537];
 static uint16_t table[CANTIVOREX_TABLE_ENTRIES];
 static uint64_t out[CANTIVOREX_OUT_ENTRIES];
 
-/* What a pair of files is made of, and what the check and the closing answer; the count answers as the closing. */
+/* What a pair of files is made of, and what the check and the closing answer; the count answers as the closing. A model
+   with persistent facts is of version 2. */
 struct pair {
     const char *name;
     uint8_t check, close;
-    size_t clauses, body, steps, last_rule, goal;
+    size_t clauses, body, steps, last_rule, goal, persistent;
     void (*spoil)(void);
 };
 
@@ -88,17 +89,25 @@ static void write_conditions(const struct pair *pair, int are_rules)
     end(&model, section, 4);
 }
 
+/* A section of the facts below a number. */
+static void write_facts(size_t count)
+{
+    size_t section = begin(&model, 4);
+    for (size_t fact = 0; fact < count; fact++)
+        word(&model, fact);
+    end(&model, section, 4);
+}
+
 static void write_model(const struct pair *pair)
 {
-    model.bytes[0] = 1;
+    model.bytes[0] = pair->persistent ? 2 : 1;
     model.len = 1;
     size_t section = begin(&model, 4);
     word(&model, FACTS);
     end(&model, section, 4);
-    section = begin(&model, 4);
-    for (size_t fact = 0; fact < STORED; fact++)
-        word(&model, fact);
-    end(&model, section, 4);
+    write_facts(STORED);
+    if (pair->persistent)
+        write_facts(pair->persistent);
     write_clauses(pair);
     write_conditions(pair, 1);
     write_conditions(pair, 0);
@@ -149,22 +158,25 @@ static void end_with_fact_0(void)
 }
 
 static const struct pair pairs[] = {
-    {"a chain of 4,000 clauses", CANTIVOREX_ATTACK, 0, 4000, 1, 2, 0, 0, NULL},
-    {"1,790 bodies of 16 facts", CANTIVOREX_ATTACK, 0, 1790, 16, 2, 0, 0, NULL},
-    {"1,024 steps", CANTIVOREX_ATTACK, 0, 64, 1, 1024, 0, 0, NULL},
-    {"a fact missing in the last step", CANTIVOREX_BLOCKED, 0, 64, 1, 1024, 1, 0, NULL},
-    {"a fact in the last step's way", CANTIVOREX_BLOCKED, 0, 64, 1, 1024, 2, 0, NULL},
-    {"a fact missing in the goal", CANTIVOREX_NOATTACK, 0, 64, 1, 1024, 0, 1, NULL},
-    {"a fact in the goal's way", CANTIVOREX_NOATTACK, 0, 64, 1, 1024, 0, 2, NULL},
-    {"a model of 65,537 bytes", CANTIVOREX_LONG, CANTIVOREX_LONG, 64, 1, 2, 0, 0, make_long},
-    {"an empty trace", CANTIVOREX_VERSION, 0, 64, 1, 2, 0, 0, make_empty},
-    {"a byte after the model", CANTIVOREX_SHAPE, CANTIVOREX_SHAPE, 1790, 16, 2, 0, 0, leave_a_byte},
-    {"4,097 facts", CANTIVOREX_COUNT, CANTIVOREX_COUNT, 64, 1, 2, 0, 0, take_a_fact_more},
-    {"1,025 steps", CANTIVOREX_COUNT, 0, 64, 1, 1025, 0, 0, NULL},
-    {"fact 4,096 at the end", CANTIVOREX_FACT, CANTIVOREX_FACT, 1790, 16, 2, 0, 0, end_with_fact_4096},
-    {"fact 0 at the end", CANTIVOREX_ORDER, CANTIVOREX_ORDER, 1790, 16, 2, 0, 0, end_with_fact_0},
-    {"rule 3 in the last step", CANTIVOREX_NAME, 0, 64, 1, 1024, 3, 0, NULL},
-    {"goal 3", CANTIVOREX_NAME, 0, 64, 1, 1024, 0, 3, NULL},
+    {"a chain of 4,000 clauses", CANTIVOREX_ATTACK, 0, 4000, 1, 2, 0, 0, 0, NULL},
+    {"1,790 bodies of 16 facts", CANTIVOREX_ATTACK, 0, 1790, 16, 2, 0, 0, 0, NULL},
+    {"1,024 steps", CANTIVOREX_ATTACK, 0, 64, 1, 1024, 0, 0, 0, NULL},
+    {"a fact missing in the last step", CANTIVOREX_BLOCKED, 0, 64, 1, 1024, 1, 0, 0, NULL},
+    {"a fact in the last step's way", CANTIVOREX_BLOCKED, 0, 64, 1, 1024, 2, 0, 0, NULL},
+    {"a fact missing in the goal", CANTIVOREX_NOATTACK, 0, 64, 1, 1024, 0, 1, 0, NULL},
+    {"a fact in the goal's way", CANTIVOREX_NOATTACK, 0, 64, 1, 1024, 0, 2, 0, NULL},
+    {"a model of 65,537 bytes", CANTIVOREX_LONG, CANTIVOREX_LONG, 64, 1, 2, 0, 0, 0, make_long},
+    {"an empty trace", CANTIVOREX_VERSION, 0, 64, 1, 2, 0, 0, 0, make_empty},
+    {"a byte after the model", CANTIVOREX_SHAPE, CANTIVOREX_SHAPE, 1790, 16, 2, 0, 0, 0, leave_a_byte},
+    {"4,097 facts", CANTIVOREX_COUNT, CANTIVOREX_COUNT, 64, 1, 2, 0, 0, 0, take_a_fact_more},
+    {"1,025 steps", CANTIVOREX_COUNT, 0, 64, 1, 1025, 0, 0, 0, NULL},
+    {"fact 4,096 at the end", CANTIVOREX_FACT, CANTIVOREX_FACT, 1790, 16, 2, 0, 0, 0, end_with_fact_4096},
+    {"fact 0 at the end", CANTIVOREX_ORDER, CANTIVOREX_ORDER, 1790, 16, 2, 0, 0, 0, end_with_fact_0},
+    {"rule 3 in the last step", CANTIVOREX_NAME, 0, 64, 1, 1024, 3, 0, 0, NULL},
+    {"goal 3", CANTIVOREX_NAME, 0, 64, 1, 1024, 0, 3, 0, NULL},
+    {"4,096 persistent facts", CANTIVOREX_ATTACK, 0, 64, 1, 1024, 0, 0, 4096, NULL},
+    {".. and 1,500 bodies of 16 facts", CANTIVOREX_BLOCKED, 0, 1500, 16, 2, 1, 0, 4096, NULL},
+    {"persistent fact 4,096", CANTIVOREX_FACT, CANTIVOREX_FACT, 64, 1, 2, 0, 0, 4097, NULL},
 };
 
 static uint8_t answer;

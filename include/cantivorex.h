@@ -22,7 +22,7 @@ enum {
     CANTIVOREX_ATTACK = 0,   /* accepted */
     CANTIVOREX_ROOM = 1,     /* a buffer is too short; state and table stay */
     CANTIVOREX_LONG = 2,     /* a file is over its size: 65,536 bytes for a model, 4,096 for a trace */
-    CANTIVOREX_VERSION = 3,  /* a file is empty, or its first byte is not 1 */
+    CANTIVOREX_VERSION = 3,  /* a file is empty, or its first byte is not a version: 1 or 2 of a model, 1 of a trace */
     CANTIVOREX_SHAPE = 4,    /* a length or count does not fit, something is too short, bytes are left over */
     CANTIVOREX_COUNT = 5,    /* a bound is passed */
     CANTIVOREX_FACT = 6,     /* a fact number of F or more */
@@ -55,7 +55,7 @@ enum {
     CANTIVOREX_OUT_SIZE = 9    /* how many they are */
 };
 
-/* Where a model's figures stand in `out`. */
+/* Where a model's figures stand in `out`: the same four for both versions. */
 enum {
     CANTIVOREX_HAS_FACTS = 0, /* F: its facts are the numbers below it */
     CANTIVOREX_HAS_CLAUSES = 1,

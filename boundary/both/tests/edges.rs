@@ -1,6 +1,6 @@
-//! The edges of document 01: a pair on each side of every bound and one for each fault, through the proved library; and
-//! what models have. What must come out was worked out by hand: EDGES.md has the reasoning, edges.txt and figures.txt
-//! the lines.
+//! The edges of document 01: a pair on each side of every bound and one for each fault, through the proved library; the
+//! same for version 2, and what a step does to persistent facts; and what models have. What must come out was worked
+//! out by hand: EDGES.md has the reasoning, edges.txt, effects.txt and figures.txt the lines.
 
 use cantivorex::{Counts, STATE_BYTES, TABLE_ENTRIES};
 use second::gen::{write_model, write_trace};
@@ -55,6 +55,11 @@ fn in_goal(change: impl FnOnce(&mut Attack)) -> Files {
 
 fn plain() -> Files {
     listed(|_| ())
+}
+
+/// The plain pair with its model as version 2.
+fn persistent(facts: Vec<u16>) -> Files {
+    listed(|l| l.model.persistent = Some(facts))
 }
 
 /// Changes to the written bytes.
@@ -184,7 +189,7 @@ fn other_faults() -> Vec<Case> {
         ("the last byte missing", plain().model_of(44)),
         ("one byte more", plain().model_of(46)),
         ("the trace's last byte missing", plain().trace_of(8)),
-        ("version 2", plain().model_version(2)),
+        ("version 3", plain().model_version(3)),
         ("a fact twice in a rule's P", in_rule(|r| r.pos = vec![0, 0])),
         ("a head in a rule's N", listed(head_in_n)),
         ("an attack state that is missing", listed(|l| l.goal = 1)),
@@ -247,13 +252,82 @@ fn too_many_facts(lists: &mut Lists) {
 
 fn the_first_of_two() -> Vec<Case> {
     let many_steps = listed(|l| repeat(&mut l.steps, 1_025)).trace_of(2_058);
-    let long_trace = plain().trace_of(4_097).model_version(2);
+    let long_trace = plain().trace_of(4_097).model_version(3);
     let newer_trace = plain().trace_version(2).model_of(44);
     vec![
         ("F 4097 and initial fact 4097", listed(too_many_facts)),
         ("1025 steps and a byte more", many_steps),
-        ("a trace of 4097 bytes and a model of version 2", long_trace),
+        ("a trace of 4097 bytes and a model of version 3", long_trace),
         ("a trace of version 2 and a model's last byte missing", newer_trace),
+    ]
+}
+
+/// The longest model of version 2 without a fault.
+fn full_2(lists: &mut Lists) {
+    full(lists);
+    lists.model.initial = facts(0, 2_074);
+    lists.model.persistent = Some(facts(0, 2_000));
+}
+
+/// All facts that there can be, and perhaps one more number.
+fn all_persistent(more: Option<u16>) -> Files {
+    listed(|l| {
+        l.model.facts = 4_096;
+        l.model.persistent = Some(facts(0, 4_096).into_iter().chain(more).collect());
+    })
+}
+
+fn versions() -> Vec<Case> {
+    vec![
+        ("version 0", plain().model_version(0)),
+        ("version 255", plain().model_version(255)),
+        ("version 2 without its section", plain().model_version(2)),
+        ("version 1 with the section", persistent(vec![1]).model_version(1)),
+        ("a trace of version 2 and a model of version 2", persistent(vec![]).trace_version(2)),
+        ("a trace of version 2 and a model of version 1", plain().trace_version(2)),
+    ]
+}
+
+fn persistent_facts() -> Vec<Case> {
+    vec![
+        ("no persistent fact", persistent(vec![])),
+        ("persistent fact F-1", persistent(facts(0, 40))),
+        ("persistent fact F", persistent(facts(0, 41))),
+        ("4096 persistent facts", all_persistent(None)),
+        ("4096 persistent facts and fact F", all_persistent(Some(4_096))),
+        ("4096 persistent facts and the last again", all_persistent(Some(4_095))),
+        ("a full model of version 2", listed(full_2)),
+        ("a persistent fact twice", persistent(vec![5, 5])),
+        ("the last persistent fact below the one before", persistent(vec![0, 2, 1])),
+        ("half a persistent fact", persistent(vec![]).with(11, 15, &[0, 0, 0, 1, 0])),
+        ("a persistent fact and a half", persistent(vec![]).with(11, 15, &[0, 0, 0, 3, 0, 0, 0])),
+        ("the persistent facts' length too long", persistent(vec![]).with(13, 14, &[1])),
+        ("no persistent facts' section", persistent(vec![]).model_of(11)),
+        ("three bytes of the persistent facts' length", persistent(vec![]).model_of(14)),
+    ]
+}
+
+/// Two faults, one of them in the section.
+fn persistent_and_another() -> Vec<Case> {
+    let too_many = |l: &mut Lists| {
+        l.model.facts = 4_097;
+        l.model.persistent = Some(vec![4_097]);
+    };
+    let initial_too = |l: &mut Lists| {
+        l.model.initial = vec![40];
+        l.model.persistent = Some(vec![40]);
+    };
+    let head_too = |l: &mut Lists| {
+        l.model.clauses[0].head = 40;
+        l.model.persistent = Some(vec![40]);
+    };
+    let half = persistent(vec![]).with(11, 15, &[0, 0, 0, 3, 0, 40, 0]);
+    vec![
+        ("F 4097 and persistent fact 4097", listed(too_many)),
+        ("initial fact F and persistent fact F", listed(initial_too)),
+        ("persistent fact F and head F", listed(head_too)),
+        ("persistent fact F and half a fact", half),
+        ("persistent facts 2, 1 and F", persistent(vec![2, 1, 40])),
     ]
 }
 
@@ -284,8 +358,16 @@ fn what_is_counted() -> Vec<Case> {
 
 /// In the order of EDGES.md, its last section.
 fn models() -> Vec<Case> {
-    let groups =
-        [what_is_counted, records_steps_and_f, sizes_of_files, other_faults, the_first_of_two];
+    let groups = [
+        what_is_counted,
+        records_steps_and_f,
+        sizes_of_files,
+        other_faults,
+        the_first_of_two,
+        versions,
+        persistent_facts,
+        persistent_and_another,
+    ];
     groups.iter().flat_map(|group| group()).collect()
 }
 
@@ -301,8 +383,104 @@ fn cases() -> Vec<Case> {
         passes_over_a_record,
         too_short,
         the_first_of_two,
+        versions,
+        persistent_facts,
+        persistent_and_another,
     ];
     groups.iter().flat_map(|group| group()).collect()
+}
+
+/// The pair that the effects change.
+fn effect(change: impl FnOnce(&mut Lists)) -> Files {
+    listed(|l| {
+        l.model.initial = vec![0, 1];
+        l.model.persistent = Some(vec![]);
+        l.model.clauses = vec![Clause { head: 2, body: vec![0] }];
+        l.model.rules = vec![rule(&[1], &[]), rule(&[0], &[])];
+        l.model.attacks[0].pos = vec![1];
+        change(l);
+    })
+}
+
+/// A rule without N.
+fn rule(pos: &[u16], add: &[u16]) -> Rule {
+    Rule { pos: pos.to_vec(), add: add.to_vec(), ..Rule::default() }
+}
+
+/// Fact 2, derived or stored: rule 0 asks for it, rule 1 takes away what gives it, and the goal asks for it.
+fn derived(initial: &[u16], persistent: &[u16], add: &[u16]) -> Files {
+    effect(|l| {
+        l.model.initial = initial.to_vec();
+        l.model.persistent = Some(persistent.to_vec());
+        l.model.rules[0] = rule(&[2], add);
+        l.model.attacks[0].pos = vec![2];
+        l.steps = vec![0, 1];
+    })
+}
+
+/// A step takes away a full P, and the goal asks for its last fact.
+fn full_p(persistent: Vec<u16>) -> Files {
+    effect(|l| {
+        l.model.initial = facts(0, 32);
+        l.model.persistent = Some(persistent);
+        l.model.rules[0].pos = facts(0, 32);
+        l.model.attacks[0].pos = vec![31];
+    })
+}
+
+/// A step takes away a fact of 4,096, and the goal asks for it.
+fn one_of_all(fact: u16, persistent: Vec<u16>) -> Files {
+    effect(|l| {
+        l.model.facts = 4_096;
+        l.model.initial = vec![fact];
+        l.model.persistent = Some(persistent);
+        l.model.rules[0].pos = vec![fact];
+        l.model.attacks[0].pos = vec![fact];
+    })
+}
+
+fn added_later(lists: &mut Lists) {
+    lists.model.persistent = Some(vec![3]);
+    lists.model.rules = vec![rule(&[], &[3]), rule(&[0, 3], &[])];
+    lists.model.attacks[0] = Attack { pos: vec![3], neg: vec![0] };
+    lists.steps = vec![0, 1];
+}
+
+fn unwanted(lists: &mut Lists) {
+    lists.model.persistent = Some(vec![1]);
+    lists.model.rules[0] = Rule { neg: vec![1], ..Rule::default() };
+}
+
+/// In the order of EDGES.md.
+fn effects() -> Vec<Case> {
+    let of = |facts: &[u16]| {
+        let persistent = Some(facts.to_vec());
+        effect(|l| l.model.persistent = persistent)
+    };
+    vec![
+        ("a stored fact that is persistent", of(&[1])),
+        ("a stored fact that isn't", of(&[])),
+        ("another that is", of(&[0])),
+        ("version 1", effect(|l| l.model.persistent = None)),
+        ("a derived fact that is persistent", derived(&[0, 1], &[2], &[])),
+        ("and is added", derived(&[0, 1], &[2], &[2])),
+        ("and is stored besides", derived(&[0, 1, 2], &[2], &[])),
+        ("a head that is stored and not persistent", derived(&[0, 1, 2], &[], &[])),
+        ("a persistent fact that a step adds", effect(added_later)),
+        ("a persistent fact in an N", effect(unwanted)),
+        ("32 in P, the last persistent", full_p(vec![31])),
+        ("32 in P, all but the last persistent", full_p(facts(0, 31))),
+        ("the last of 4096 persistent facts", one_of_all(4_095, facts(0, 4_096))),
+        ("the first of 4096 persistent facts", one_of_all(0, facts(0, 4_096))),
+        ("the last fact after 4095 persistent ones", one_of_all(4_095, facts(0, 4_095))),
+        ("the first fact before 4095 persistent ones", one_of_all(0, facts(1, 4_095))),
+    ]
+}
+
+fn whole_line((label, files): &Case) -> String {
+    let (mut state, mut table) = ([0; STATE_BYTES], [0; TABLE_ENTRIES]);
+    let v = cantivorex::check(&files.model, &files.trace, &mut state, &mut table);
+    format!("{label}: {}", v.line())
 }
 
 fn line((label, files): &Case) -> String {
@@ -354,6 +532,11 @@ fn the_plain_pair_is_the_one_of_the_page() {
 #[test]
 fn every_edge_gives_what_was_worked_out_by_hand() {
     agree(&cases(), line, include_str!("edges.txt"));
+}
+
+#[test]
+fn every_effect_is_what_was_worked_out_by_hand() {
+    agree(&effects(), whole_line, include_str!("effects.txt"));
 }
 
 #[test]

@@ -1,5 +1,5 @@
-//! `bench`: the proved library against the second program, one run, no limits. Each row takes turns with its rival and shows the best
-//! turn of each; a ratio of 2 says that the library takes twice as long.
+//! `bench`: the proved library against the second program, one run, no limits. Each row takes turns with its rival and
+//! shows the best turn of each; a ratio of 2 says that the library takes twice as long.
 
 use both::plain;
 use second::gen::{self, write_model, write_trace, Rng};
@@ -30,6 +30,9 @@ fn main() {
     println!("\nWhole checks, against the second program's check");
     head();
     checks(&desk);
+    println!("\nVersion 2 with the library, against the library");
+    head();
+    versions(&desk);
     println!("\nHow the time grows: closing, ns");
     growth();
     println!("\nclingo on the same clauses as facts and rules, its start included");
@@ -78,8 +81,8 @@ fn state(model: &[u8]) -> [u8; 512] {
     state
 }
 
-/// A rule without conditions and without effect closes the initial facts anew in each step, so steps cost their closings and little
-/// else; a check without steps costs the rest.
+/// A rule without conditions and without effect closes the initial facts anew in each step, so steps cost their
+/// closings and little else; a check without steps costs the rest.
 fn closing_alone(name: &str, mut model: Model) {
     model.rules = vec![Rule::default()];
     model.attacks = vec![Attack::default()];
@@ -179,6 +182,27 @@ fn checks(desk: &Model) {
     );
 }
 
+/// What version 2 costs: an empty section against none, and all facts against none of them.
+fn versions(desk: &Model) {
+    let newer = Model { persistent: Some(vec![]), ..desk.clone() };
+    for (case, trace) in [("A", write_trace(0, &[0])), ("B", write_trace(0, &[1, 0]))] {
+        against(&format!("desk model, case {case}, empty section"), &newer, desk, &trace);
+    }
+    let (all, trace) = (asking(Some((0..4_096).collect())), write_trace(0, &[0; 1_024]));
+    against("4,096 persistent, 1,024 steps of 32 in P", &all, &asking(Some(vec![])), &trace);
+    against("the same against version 1", &all, &asking(None), &trace);
+    check("the same against the second program", &[(write_model(&all), trace)]);
+}
+
+/// The library with two models and one trace.
+fn against(name: &str, one: &Model, other: &Model, trace: &[u8]) {
+    let [ours, theirs] = [one, other].map(|model| {
+        let (model, mut s, mut t) = (write_model(model), [0; 512], [0; 4_096]);
+        move || cantivorex::check(black_box(&model), trace, &mut s, &mut t).rounds as u64
+    });
+    race(name, ours, theirs);
+}
+
 /// A table of one library call each: rounds, clauses and body facts vary by themselves.
 fn growth() {
     let line = |what: String, model: Model| {
@@ -275,6 +299,13 @@ fn many_rules() -> Model {
     let rule = Rule { pos: up(0), neg: up(100), add: up(200) };
     let clauses = (0..200).map(|k| Clause { head: 1_000 + k, body: vec![k] }).collect();
     Model { rules: vec![rule; 315], ..with(4_096, vec![0], clauses) }
+}
+
+/// One rule whose P is full, of facts far from each other, and is added again: it fires time after time.
+fn asking(persistent: Option<Vec<u16>>) -> Model {
+    let pos: Vec<u16> = (0..32).map(|k| 128 * k + 127).collect();
+    let rules = vec![Rule { add: pos.clone(), pos: pos.clone(), ..Rule::default() }];
+    Model { persistent, rules, ..with(4_096, pos, vec![]) }
 }
 
 /// As many clauses as there may be and as many N facts as then fit.

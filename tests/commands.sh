@@ -81,9 +81,13 @@ test_long() {
 
 test_version() {
     told VERSION 'model before byte 0' \
-        'the file is empty: a model starts with the version, 1' ''
+        'the file is empty: a model starts with the version, 1 or 2' ''
     told VERSION 'model byte 0 (07)' \
-        'the version: a model starts with 01' 07
+        'the version: a model starts with 01 or 02' 07
+    told VERSION 'model byte 0 (03)' \
+        'the version: a model starts with 01 or 02' "03${fine:2}"
+    told VERSION 'trace before byte 0' \
+        'the file is empty: a trace starts with the version, 1' "$fine" ''
     told VERSION 'trace byte 0 (02)' \
         'the version: a trace starts with 01' "$fine" '02 00000002 0000'
 }
@@ -187,6 +191,45 @@ test_name() {
     told NAME 'trace bytes 5 to 6 (00 00)' \
         'the goal: it names goal 0, and the model has no goal' \
         '01 00000002 0000 00000000 00000000 00000000 00000000' '01 00000002 0000'
+}
+
+# Version 2: the section after the initial facts has its length at 17 and its bytes from 21 on.
+test_persistent() {
+    local head_2="02${head_part:2}" rest="$clauses $rules $goals" section='section persistent facts'
+    told SHAPE 'model before byte 17' \
+        "$section: its length of 4 bytes was expected, the file has 0 bytes more" "$head_2"
+    told SHAPE 'model bytes 17 to 19 (00 00 00)' \
+        "$section: its length of 4 bytes was expected, the file has 3 bytes more" "$head_2 000000"
+    told SHAPE 'model bytes 17 to 24 (00 00 01 00 00 01 00 05)' \
+        "$section: its length says 256 bytes, the file has 4 bytes more" "$head_2 00000100 0001 0005"
+    told SHAPE 'model bytes 21 to 23 (00 01 00)' \
+        "$section: it has 3 bytes, 2 for each fact were expected" "$head_2 00000003 000100 $rest"
+    told FACT 'model bytes 21 to 24 (00 01 00 06)' \
+        "$section: fact 6 stands in its list, and the model has facts 0 to 5" "$head_2 00000004 0001 0006 $rest"
+    told ORDER 'model bytes 21 to 24 (00 05 00 01)' \
+        "$section: in its list fact 5 stands before fact 1: facts ascend" "$head_2 00000004 0005 0001 $rest"
+    # An empty one is fine; what comes after it is told by its own name.
+    told SHAPE 'model before byte 21' \
+        'section clauses: its length of 4 bytes was expected, the file has 0 bytes more' "$head_2 00000000"
+    told SHAPE 'model bytes 25 to 29 (00 09 00 02 00)' \
+        'section clauses, clause 0: its length says 9 bytes, its section has 3 bytes more' \
+        "$head_2 00000000 00000005 0009 0002 00 $rules $goals"
+    # Version 2 without its section: the clauses' bytes are taken for facts.
+    told FACT 'model bytes 21 to 36 (00 06 00 02 00 00 00 01 00 06 00 05 00 02 00 04)' \
+        "$section: fact 6 stands in its list, and the model has facts 0 to 5" "$head_2 $rest"
+    try "$desk" "$root/samples/mandate/persistent.model"
+    has 'a model of version 2 for a trace' \
+        'byte 0 (02), the version: a trace starts with 01 (it was given a model for the trace)' "$err"
+    bytes "$head_2 00000000 $rest" >"$tmp/m.model"
+    try show "$tmp/m.model"
+    same 'no persistent fact' 'persistent facts: none' "$(sed -n 3p <<<"$out")"
+    bytes "02 00000002 0064 00000000 000000C8 $(count_up 100) 00000000 00000000 00000000" >"$tmp/m.model"
+    try show "$tmp/m.model"
+    has 'all persistent facts are shown' ', 98, 99' "$(sed -n 3p <<<"$out")"
+    try count "$tmp/m.model"
+    has 'a long list of persistent facts is cut' '22, 23 and 76 more' "$(sed -n 2p <<<"$out")"
+    try count --all "$tmp/m.model"
+    has 'or not' ', 98, 99' "$(sed -n 2p <<<"$out")"
 }
 
 test_usage() {
@@ -411,6 +454,47 @@ NOATTACK step 0 fact 30 rounds 1 held 9 kind negative round 1             may-no
     try count "$folder/tasks.model" "$folder/may-not.trace"
     has 'a goal whose only condition is a head' "goal 7 may(post,ben) is not met in state 0: $(
         )fact 30 denied(task(post,1,loan),ben) is in the way since round 1" "$out"
+}
+
+# A derived right that signing doesn't use up: version 1 adds it again, and it outlives the mandate; version 2 doesn't.
+test_mandate() {
+    local folder=$root/samples/mandate
+    try "$folder/added.model" "$folder/revoked.trace"
+    same 'a right that is added again' 'ATTACK step 2 fact none rounds 1 held 1 kind none round none' "$out"
+    try "$folder/persistent.model" "$folder/revoked.trace"
+    same 'a right that is persistent' 'NOATTACK step 2 fact 1 rounds 2 held 0 kind positive round none' "$out"
+    try show "$folder/persistent.model"
+    same 'version 2 as text' 'facts: 2
+  0 mandate(ana)
+  1 may_sign(ben)
+initial facts: 0 mandate(ana)
+persistent facts: 1 may_sign(ben)
+clauses: 1
+  clause 0: 1 may_sign(ben) from 0 mandate(ana)
+rules: 2
+  rule 0 sign: needs 1 may_sign(ben)
+  rule 1 revoke: needs 0 mandate(ana)
+attack states: 1
+  goal 0 ben may still sign: needs 1 may_sign(ben)' "$out"
+    try show "$folder/added.model"
+    same 'version 1 has no such line' '' "$(grep persistent <<<"$out")"
+    try count "$folder/persistent.model" "$folder/revoked.trace"
+    same 'counting version 2' "model '$folder/persistent.model': 2 facts, 1 clause, 2 rules, 1 attack state
+persistent facts: 1 may_sign(ben)
+state 0, the initial one: 1 stored, 1 reached by closing in 1 round, 0 not reached
+  stored:      0 mandate(ana)
+  reached:     1 may_sign(ben) (round 1)
+  not reached: none
+state 1, after step 0, rule 0 sign: 1 stored, 1 reached by closing in 1 round, 0 not reached
+  stored:      0 mandate(ana)
+  reached:     1 may_sign(ben) (round 1)
+  not reached: none
+state 2, after step 1, rule 1 revoke: 0 stored, 0 reached by closing in 0 rounds, 2 not reached
+  stored:      none
+  reached:     none
+  not reached: 0 mandate(ana), 1 may_sign(ben)
+NOATTACK: all 2 steps fire, but goal 0 ben may still sign is not met in state 2: fact 1 may_sign(ben) is missing
+NOATTACK step 2 fact 1 rounds 2 held 0 kind positive round none" "$out"
 }
 
 # unfit LABEL REASON LINES: a names file that doesn't fit is told, and the numbers stand alone.
@@ -718,6 +802,7 @@ test_shape
 test_count_number
 test_fact_order
 test_name
+test_persistent
 test_usage
 test_help
 test_exit_verdict
@@ -726,6 +811,7 @@ test_lost_output
 test_show_and_count
 test_table2
 test_tasks
+test_mandate
 test_names
 test_night
 test_gaps

@@ -6,7 +6,7 @@ use crate::endings::ending;
 use crate::failure::{unanswered, Failure};
 use crate::files::Pair;
 use crate::judge::{self, is_refusal, Counts, Judged};
-use crate::layout;
+use crate::layout::{self, Model};
 use crate::names::Names;
 use crate::output::{counted, listed, quoted, Output};
 use crate::places::refusal;
@@ -17,11 +17,12 @@ pub const COMMAND: Command = Command {
     usage: "count MODEL [TRACE] [--all]",
     brief: "the facts of each state that a trace reaches, and how it ends, in words",
     help: "\
-First what the model has. Then for each state that the trace reaches (without
-TRACE the initial one): the facts stored, those that closing reaches with the
-round of each, the number of rounds, and the facts not reached. Then how the
-trace ends: which condition, of which rule or goal, is missing or in the way.
-Names stand beside the numbers where NAME.names lies beside NAME.model.
+First what the model has, and its persistent facts if it is of version 2. Then
+for each state that the trace reaches (without TRACE the initial one): the facts
+stored, those that closing reaches with the round of each, the number of rounds,
+and the facts not reached. Then how the trace ends: which condition, of which
+rule or goal, is missing or in the way. Names stand beside the numbers where
+NAME.names lies beside NAME.model.
 
   --all  lists of more than 24 facts are shown whole
 
@@ -50,6 +51,7 @@ fn run(args: &Args) -> Result<u8, Failure> {
         output.line(&sizes(&pair, &counts))?;
         let facts = counts.facts;
         let mut report = Report { pair: &pair, facts, names: &names, most, output: &mut output };
+        report.persistent()?;
         report.states(&judged, has_trace)?;
     }
     if is_refusal(&judged.verdict) {
@@ -82,6 +84,13 @@ struct Report<'a> {
 }
 
 impl Report<'_> {
+    /// The library has no figure for them, so that they are listed and not counted.
+    fn persistent(&mut self) -> Result<(), Failure> {
+        let Some(facts) = Model::read(&self.pair.model).persistent else { return Ok(()) };
+        let entries = facts.iter().map(|fact| self.names.fact(*fact));
+        self.output.line(&format!("persistent facts: {}", listed(entries, self.most)))
+    }
+
     /// The states reached, each by its own check, and the end.
     fn states(&mut self, last: &Judged, has_trace: bool) -> Result<(), Failure> {
         if is_refusal(&last.verdict) {

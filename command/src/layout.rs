@@ -1,6 +1,6 @@
 //! The sections and records of a file, for people. What a file is worth the library has judged; this reader
-//! follows it as far as its lengths go. A later version of the model is one more list of roles, a later section
-//! one more role.
+//! follows it as far as its lengths go. A later version of a file is one more list of roles, a later section one
+//! more role.
 
 use crate::output::counted;
 use Role::*;
@@ -9,15 +9,21 @@ use Role::*;
 pub enum Role {
     Sizes,
     Initial,
+    Persistent,
     Clauses,
     Rules,
     Goals,
     Trace,
 }
 
-/// The sections of a model, in order, and of a trace.
-pub const MODEL: &[Role] = &[Sizes, Initial, Clauses, Rules, Goals];
-pub const TRACE: &[Role] = &[Trace];
+/// The sections, in order, of each version of a file; version 1 comes first.
+pub type Versions = &'static [&'static [Role]];
+
+pub const MODEL: Versions = &[
+    &[Sizes, Initial, Clauses, Rules, Goals],
+    &[Sizes, Initial, Persistent, Clauses, Rules, Goals],
+];
+pub const TRACE: Versions = &[&[Trace]];
 
 /// The most facts and steps.
 pub const FACTS: usize = 4_096;
@@ -34,6 +40,7 @@ impl Role {
         match self {
             Sizes => "sizes",
             Initial => "initial facts",
+            Persistent => "persistent facts",
             Clauses => "clauses",
             Rules => "rules",
             Goals => "attack states",
@@ -47,7 +54,7 @@ impl Role {
             Clauses => Some(Kind { word: "clause", most: 4_096 }),
             Rules => Some(Kind { word: "rule", most: 2_048 }),
             Goals => Some(Kind { word: "goal", most: 64 }),
-            Sizes | Initial | Trace => None,
+            Sizes | Initial | Persistent | Trace => None,
         }
     }
 }
@@ -83,7 +90,7 @@ pub fn lists(role: Role, bytes: &[u8]) -> Result<Vec<List>, String> {
             fits(size == 2, "exactly 2 were expected")?;
             Ok(vec![List::new("F", 1, bytes)])
         }
-        Initial => {
+        Initial | Persistent => {
             fits(size.is_multiple_of(2), "2 for each fact were expected")?;
             Ok(vec![List::new("list", FACTS, bytes)])
         }
@@ -163,10 +170,12 @@ fn piece(bytes: &[u8], base: usize, at: usize, wide: usize) -> Piece<'_> {
     Piece { at: base + at, claimed, start, bytes: &inside[..size] }
 }
 
-/// The sections up to the first that isn't whole, that one included.
-pub fn sections<'a>(file: &'a [u8], roles: &[Role]) -> Vec<(Role, Piece<'a>)> {
+/// The sections by the file's version, of which there must be one; up to the first that isn't whole, that one included.
+pub fn sections(file: &[u8], versions: Versions) -> Vec<(Role, Piece<'_>)> {
+    let version = file.first().map_or(0, |byte| *byte as usize);
+    let roles = version.checked_sub(1).and_then(|at| versions.get(at));
     let mut out: Vec<(Role, Piece)> = Vec::new();
-    for role in roles {
+    for role in roles.copied().unwrap_or_default() {
         let at = out.last().map_or(1, |(_, before)| before.end());
         let next = piece(file, 0, at, 4);
         let is_whole = next.is_whole();
@@ -194,6 +203,8 @@ pub fn records<'a>(section: &Piece<'a>) -> Vec<Piece<'a>> {
 #[derive(Default)]
 pub struct Model {
     pub initial: Vec<usize>,
+    /// None where the version has no such section.
+    pub persistent: Option<Vec<usize>>,
     pub clauses: Vec<Vec<List>>,
     pub rules: Vec<Vec<List>>,
     pub goals: Vec<Vec<List>>,
@@ -207,6 +218,7 @@ impl Model {
                 || records(&section).iter().map_while(|r| lists(role, r.bytes).ok()).collect();
             match role {
                 Initial => model.initial = numbers(role, &section),
+                Persistent => model.persistent = Some(numbers(role, &section)),
                 Clauses => model.clauses = cut(),
                 Rules => model.rules = cut(),
                 Goals => model.goals = cut(),
@@ -219,7 +231,7 @@ impl Model {
 
 /// F as the sizes have it, if only they can be followed.
 pub fn facts(file: &[u8]) -> usize {
-    let cut = sections(file, &MODEL[..1]);
+    let cut = sections(file, MODEL);
     cut.first().and_then(|(role, section)| numbers(*role, section).first().copied()).unwrap_or(0)
 }
 
@@ -269,6 +281,7 @@ mod tests {
             let goal = |a: &second::Attack| [&a.pos, &a.neg].map(|list| wide(list)).to_vec();
             assert_eq!(facts(&file), theirs.facts as usize, "pair {index}");
             assert_eq!(ours.initial, wide(&theirs.initial), "pair {index}");
+            assert_eq!(ours.persistent, theirs.persistent.map(|list| wide(&list)), "pair {index}");
             assert_eq!(numbers(&ours.clauses), Vec::from_iter(theirs.clauses.iter().map(clause)));
             assert_eq!(numbers(&ours.rules), Vec::from_iter(theirs.rules.iter().map(rule)));
             assert_eq!(numbers(&ours.goals), Vec::from_iter(theirs.attacks.iter().map(goal)));

@@ -3,7 +3,7 @@
 
 use crate::files::{Pair, MODEL_BYTES, TRACE_BYTES};
 use crate::judge;
-use crate::layout::{self, lists, records, sections, Kind, List, Piece, Role};
+use crate::layout::{self, lists, records, sections, Kind, List, Piece, Role, Versions};
 use crate::output::{counted, quoted};
 use library::Verdict;
 use std::ffi::OsStr;
@@ -64,16 +64,24 @@ impl Place<'_> {
         }
     }
 
+    fn versions(&self) -> Versions {
+        match self.verdict.mark {
+            0 => layout::MODEL,
+            _ => layout::TRACE,
+        }
+    }
+
     /// Where the bytes lie and what was expected; none where this reader and the library don't see the same.
     fn words(&self) -> Option<String> {
         let (word, _, file) = self.file();
         let most = if self.verdict.mark == 0 { MODEL_BYTES } else { TRACE_BYTES };
         match self.verdict.number {
             2 => Some(format!("the whole file: a {word} has at most {most} bytes")),
-            3 if file.is_empty() => {
-                Some(format!("the file is empty: a {word} starts with the version, 1"))
-            }
-            3 => Some(format!("the version: a {word} starts with 01")),
+            3 if file.is_empty() => Some(format!(
+                "the file is empty: a {word} starts with the version, {}",
+                any_of(self.versions(), 1)
+            )),
+            3 => Some(format!("the version: a {word} starts with {}", any_of(self.versions(), 2))),
             9 => self.lacking(),
             _ => self.in_section(),
         }
@@ -97,8 +105,7 @@ impl Place<'_> {
     /// 4 to 7: the section first.
     fn in_section(&self) -> Option<String> {
         let (_, _, file) = self.file();
-        let roles = if self.verdict.mark == 0 { layout::MODEL } else { layout::TRACE };
-        let all = sections(file, roles);
+        let all = sections(file, self.versions());
         let start = self.verdict.start;
         let at_fault = all.iter().find(|(role, s)| !s.is_whole() || self.is_in(*role, s));
         let Some((role, section)) = at_fault else {
@@ -123,7 +130,7 @@ impl Place<'_> {
         match role.kind() {
             Some(_) => section.start <= start && start < section.end(),
             // An empty list of facts is fine; empty sizes and an empty trace are not.
-            None if size == 0 && role == Role::Initial => false,
+            None if size == 0 && matches!(role, Role::Initial | Role::Persistent) => false,
             None => (start, size) == (section.start, section.bytes.len()),
         }
     }
@@ -168,6 +175,12 @@ impl Place<'_> {
             _ => None,
         }
     }
+}
+
+/// The versions that there are, of so many digits: "01 or 02".
+fn any_of(versions: Versions, digits: usize) -> String {
+    let all: Vec<String> = (1..=versions.len()).map(|n| format!("{n:0digits$}")).collect();
+    all.join(" or ")
 }
 
 /// A length that isn't whole or says more than there is up to `end`.
@@ -215,10 +228,10 @@ fn numbered(word: &str, count: usize) -> String {
 mod tests {
     use super::*;
 
-    /// Every refusal of many damaged pairs is placed, and each number occurs.
+    /// Every refusal of many damaged pairs is placed, and each number occurs, also in the section of version 2.
     #[test]
     fn every_refusal_has_its_words() {
-        let mut seen = [0; 12];
+        let (mut seen, mut persistent) = ([0; 12], [0; 12]);
         for index in 0..10_000 {
             let second::gen::Pair { model, trace, .. } = second::gen::damaged(5, index);
             let verdict = judge::check(&model, &trace).verdict;
@@ -228,9 +241,13 @@ mod tests {
             if judge::is_refusal(&verdict) {
                 let words = refusal(&verdict, &pair);
                 assert!(!words.contains(UNPLACED), "pair {index}: {words}");
+                let is_there = words.contains("section persistent facts: ");
+                persistent[verdict.number as usize] += is_there as usize;
             }
         }
         let refusals = [2, 3, 4, 5, 6, 7, 9].map(|number| seen[number]);
         assert!(refusals.iter().all(|count| *count > 10), "too few of some number: {seen:?}");
+        let of_section = [4, 6, 7].map(|number| persistent[number]);
+        assert!(of_section.iter().all(|count| *count > 10), "too few of some: {persistent:?}");
     }
 }

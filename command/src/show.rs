@@ -17,8 +17,8 @@ pub const COMMAND: Command = Command {
     help: "\
 Its facts, clauses, rules and attack states, with names where NAME.names lies
 beside NAME.model. A rule or goal `needs` its P and is stopped by its N, `not`;
-a rule takes away its P and then `adds` its A. A model that is refused is not
-shown: standard error says why, and the exit is 1.
+a rule takes away its P, persistent facts aside, and then `adds` its A. A model
+that is refused is not shown: standard error says why, and the exit is 1.
 
 Example:
   cantivorex show samples/desk.model",
@@ -48,6 +48,7 @@ fn text(model: &Model, counts: &Counts, names: &Names) -> Vec<String> {
         out.extend((0..counts.facts).map(|fact| format!("  {}", names.fact(fact))));
     }
     out.push(format!("initial facts: {}", all(&model.initial)));
+    out.extend(model.persistent.iter().map(|facts| format!("persistent facts: {}", all(facts))));
     out.push(format!("clauses: {}", counts.clauses));
     for (number, clause) in model.clauses.iter().enumerate() {
         let [head, body] = [0, 1].map(|i| all(&clause[i].numbers));

@@ -9,7 +9,7 @@ use Rattle.sets.specs.Sets.{listed, _∈_}
 use Rattle.meaning.specs.Rounds.{roundNumber}
 use Rattle.records.specs.Records.{given, _orElse_}
 use Rattle.files.specs.Files.{modelOf, pairFault}
-use Rattle.files.specs.Written.{ruleBytes, writtenModel, writtenTrace}
+use Rattle.causes.specs.Written.{ruleBytes, writtenModel, writtenTrace}
 use Rattle.closing.specs.Closing.{noRoom}
 use Rattle.checking.specs.Verdict.{Lent, blamed, refusal, verdictOf}
 use Rattle.checking.specs.Promises.{Line, shown, verdict}

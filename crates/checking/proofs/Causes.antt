@@ -10,7 +10,7 @@ use Rattle.meaning.specs.Run.{Ending}
 use Rattle.meaning.specs.Run.Ending.{attack, blocked, notMet}
 use Rattle.files.specs.Files.{Blamed, pairFault}
 use Rattle.files.specs.Answers.{blamedNumber}
-use Rattle.files.proofs.Exact.{number-exactly}
+use Rattle.causes.proofs.Exact.{number-exactly}
 use Rattle.closing.specs.Closing.{noRoom}
 use Rattle.checking.specs.Verdict.{Lent, numberOf}
 use Rattle.checking.specs.Promises.{endNumber, Given}

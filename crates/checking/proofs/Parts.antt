@@ -10,8 +10,8 @@ use Rattle.meaning.specs.Promises.EndsSo.{attack, blocked, notMet}
 use Rattle.files.specs.Files.{Blamed, modelOf, traceOf, pairFault}
 use Rattle.files.specs.Files.Blamed.{model, trace}
 use Rattle.files.specs.Answers.{blamedNumber, blamedPart, bytesAt, partOf, entryPart, goalPart}
-use Rattle.files.proofs.Causes.{FoundIn, pair-cause, cause-range}
-use Rattle.files.proofs.Named.{step-part, goal-named}
+use Rattle.causes.proofs.Causes.{FoundIn, pair-cause, cause-range}
+use Rattle.causes.proofs.Named.{step-part, goal-named}
 use Rattle.checking.specs.Verdict.{refused, blamed, numberOf, partFor, ran}
 use Rattle.checking.specs.Promises.{AtFault, InFile}
 use Rattle.checking.specs.Promises.InFile.{inModel, inTrace}

@@ -26,9 +26,9 @@ use Rattle.files.specs.Files.{Blamed, factCount, modelOf, traceOf, pairFault}
 use Rattle.files.specs.Answers.{blamedNumber}
 use Rattle.files.proofs.Laws.{initial-below, clauses-bound, clause-below, rule-below}
 use Rattle.files.proofs.Traces.{fine-pair, pair-named}
-use Rattle.files.specs.Causes.{RightPair}
-use Rattle.files.proofs.Causes.{pair-cause, cause-range}
-use Rattle.files.proofs.Exact.{right-exactly}
+use Rattle.causes.specs.Causes.{RightPair}
+use Rattle.causes.proofs.Causes.{pair-cause, cause-range}
+use Rattle.causes.proofs.Exact.{right-exactly}
 use Rattle.closing.specs.Closing.{noRoom}
 use Rattle.closing.proofs.Laws.{filled-unique}
 use Rattle.checking.specs.Verdict.{Lent, numberOf, factOf, kindOf, roundOf, refused, blamed, ran, outcome}

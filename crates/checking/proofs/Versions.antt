@@ -10,7 +10,7 @@ use Rattle.meaning.specs.Run.{Outcome, run}
 use Rattle.facts.proofs.Laws.{Bytes}
 use Rattle.files.specs.Files.{modelOf, traceOf, modelFault}
 use Rattle.files.proofs.Laws.{none-persistent}
-use Rattle.files.proofs.Alike.{same-fault}
+use Rattle.causes.proofs.Alike.{same-fault}
 use Rattle.checking.specs.Verdict.{Lent, numberOf, factOf, kindOf, roundOf, outcome, ran, refusal}
 use Rattle.checking.specs.Verdict.{verdictOf, Left, Buffers, Checked}
 use Rattle.checking.specs.Promises.{Line, shown, verdict, SameLists}

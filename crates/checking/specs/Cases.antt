@@ -9,7 +9,7 @@ use Rattle.sets.specs.Sets.{listed, _∈_}
 use Rattle.meaning.specs.Model.{Clause, Rule, Goal, Model, Trace}
 use Rattle.meaning.specs.Rounds.{roundNumber}
 use Rattle.files.specs.Files.{modelOf}
-use Rattle.files.specs.Written.{ruleBytes, writtenModel, writtenTrace}
+use Rattle.causes.specs.Written.{ruleBytes, writtenModel, writtenTrace}
 use Rattle.closing.specs.Closing.{noRoom}
 use Rattle.checking.specs.Verdict.{Lent}
 use Rattle.checking.specs.Promises.{Line, shown, verdict}

@@ -17,7 +17,7 @@ use Rattle.records.specs.Records.{records}
 use Rattle.sections.specs.declared.Role.the-variants.{Goals}
 use Rattle.files.specs.Files.{sectionOf, modelOf, traceOf, pairFault}
 use Rattle.files.specs.Answers.{partOf}
-use Rattle.files.specs.Causes.{Cause}
+use Rattle.causes.specs.Causes.{Cause}
 use Rattle.files.specs.declared.Part.{Part}
 use Rattle.closing.specs.Closing.{noRoom}
 use Rattle.checking.specs.Verdict.{Lent, outcome, numberOf, refusal, verdictOf}

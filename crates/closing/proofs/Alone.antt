@@ -19,9 +19,9 @@ use Rattle.facts.proofs.Laws.{beyond}
 use Rattle.records.specs.Records.{given, _orElse_}
 use Rattle.records.specs.declared.Fault.{Fault}
 use Rattle.files.specs.Files.{factCount, modelOf, shapeFault, modelFault}
-use Rattle.files.proofs.Causes.{fine-shape}
+use Rattle.files.proofs.Traces.{fine-shape}
 use Rattle.files.proofs.Laws.{facts-bound, clauses-bound, clause-below}
-use Rattle.files.proofs.Causes.{model-fault-range}
+use Rattle.causes.proofs.Causes.{model-fault-range}
 use Rattle.closing.specs.Closing.{Bounded, ClosesUnder, noRoom, someFrom, closeRefusal, answer, Table, Closes}
 use Rattle.closing.specs.Closing.{ClosesKnown, ClosedExactly}
 use Rattle.closing.specs.declared.Closed.{Closed}

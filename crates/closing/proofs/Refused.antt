@@ -17,8 +17,8 @@ use Rattle.facts.proofs.Laws.{beyond}
 use Rattle.records.specs.Records.{given, _orElse_}
 use Rattle.records.specs.declared.Fault.{Fault}
 use Rattle.files.specs.Files.{factCount, modelFault, modelOf}
-use Rattle.files.proofs.Causes.{alone-cause}
-use Rattle.files.proofs.Exact.{model-right, model-number, model-exactly}
+use Rattle.causes.proofs.Causes.{alone-cause}
+use Rattle.causes.proofs.Exact.{model-right, model-number, model-exactly}
 use Rattle.meaning.specs.Rounds.{rounds}
 use Rattle.closing.specs.Closing.{noRoom, someFrom, closeRefusal, answer, Table, Closes}
 use Rattle.closing.specs.Closing.{Room, RightAlone, RefusedFor, Answerable}

@@ -16,7 +16,7 @@ use Rattle.meaning.specs.Promises.{IsRounds, IsRoundNumber}
 use Rattle.facts.specs.Facts.{members}
 use Rattle.records.specs.Records.{given, _orElse_}
 use Rattle.files.specs.Files.{factCount, modelOf, modelFault}
-use Rattle.files.specs.Causes.{ModelCause, RightModel, ModelStarts}
+use Rattle.causes.specs.Causes.{ModelCause, RightModel, ModelStarts}
 use Rattle.closing.specs.declared.Closed.{Closed}
 
 -- ---- the round table

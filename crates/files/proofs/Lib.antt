@@ -6,12 +6,3 @@ pub mod Laws
 pub mod Entries
 pub mod Traces
 pub mod Lists
-pub mod Wrong
-pub mod Found
-pub mod Named
-pub mod ModelCauses
-pub mod TraceCauses
-pub mod Causes
-pub mod Exact
-pub mod Alike
-pub mod Written

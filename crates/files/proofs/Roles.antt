@@ -15,7 +15,7 @@ use Rattle.sections.specs.Sections.{payload}
 use Rattle.sections.specs.declared.Role.{Role}
 use Rattle.sections.specs.declared.Role.the-variants.{Sizes, Initial, Persistent, Clauses, Rules, Goals}
 use Rattle.files.specs.Files.{since, roles, rolesOf, tag, indexOf, has, placeOfRole, sectionOf}
-use Rattle.files.specs.Causes.{There}
+use Rattle.files.specs.Files.{There}
 
 -- ---- the versions
 

@@ -15,7 +15,7 @@ use Rattle.sections.specs.declared.Role.the-variants.{Persistent, Goals}
 use Rattle.sections.proofs.Fits.{neither, nothing-left, section-fine}
 use Rattle.sections.proofs.Parts.{fit-ended, ended-size}
 use Rattle.files.specs.Files.{rolesOf, indexOf, has, placeOfRole, sectionOf, factCount, faultFrom, shapeFault}
-use Rattle.files.specs.Causes.{There}
+use Rattle.files.specs.Files.{There}
 use Rattle.files.proofs.Roles.{absent-role, index-within, role-there, section-there, section-absent}
 use Rattle.files.proofs.Roles.{there-or-absent}
 

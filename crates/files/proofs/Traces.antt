@@ -19,7 +19,7 @@ use Rattle.records.proofs.Words.{words-index, words-two, length-words, even-len
 use Rattle.records.proofs.Judging.{or-clear}
 use Rattle.sections.specs.Sections.{long, sectionAt, fits, inSection, leftOver, tooLong, wrongVersion}
 use Rattle.files.specs.Files.{Blamed, entriesOf, modelOf, traceOf, shapeFault, modelBytes, traceBytes, traceShape}
-use Rattle.files.specs.Files.{modelVersion, traceVersion}
+use Rattle.files.specs.Files.{modelVersion, traceVersion, modelFault}
 use Rattle.files.specs.Files.{traceCount, lacks, traceNames, traceFault, headsFault, filesFault, pairFault}
 use Rattle.files.specs.Files.Blamed.{model, trace}
 use Rattle.sections.proofs.Fits.{neither, not-given, section-fine}
@@ -138,6 +138,11 @@ file-then blame fault later e =
 pub not-long : (most : ℕ) (file : List ℕ) → tooLong most file ≡ none → length file ≤ most
 unfolding tooLong
 not-long most file e = ltb-false _ _ (not-given _ _ e)
+
+-- A model by itself without a fault has none of 4 to 7.
+pub fine-shape : (m : List ℕ) → modelFault m ≡ none → shapeFault m ≡ none
+unfolding modelFault
+fine-shape m e = neither (wrongVersion modelVersion m) _ (neither (tooLong modelBytes m) _ e .1) .1
 
 -- In a pair with no fault nothing is wrong with either file.
 pub fine-pair : (m t : List ℕ) → pairFault m t ≡ none → FinePair m t

@@ -1,6 +1,6 @@
 -- Models and traces as files: the lists that a file is, and the first fault of a model, of a trace and of a pair
 -- (document 01, "File layouts", "Bounds", "Verdict numbers and the order").
-use Prim.Native.Nat.{ℕ, zero, suc, _+_, _*_}
+use Prim.Native.Nat.{ℕ, zero, suc, _+_, _*_, _<_}
 use mathlib.Core.Bool.{Bool, _||_, cond}
 use mathlib.Core.List.{List, [], _∷_, _++_, map}
 use mathlib.Core.Option.{Option, Option·map}
@@ -49,7 +49,10 @@ unfolding tag
 indexOf r [] = 0
 indexOf r (x ∷ xs) = cond (eqb (tag r) (tag x)) 0 (suc (indexOf r xs))
 
--- the model's version has a section of the role
+-- the model's version has a section of the role, said and as a test
+abbrev pub There : List ℕ → Role → Type 0
+There file r = indexOf r (rolesOf file) < length (rolesOf file)
+
 unfoldable pub has : List ℕ → Role → Bool
 unfolding indexOf rolesOf
 has file r = ltb (indexOf r (rolesOf file)) (length (rolesOf file))

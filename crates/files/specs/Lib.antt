@@ -1,5 +1,3 @@
 pub mod Files
 pub mod Answers
 pub mod Known
-pub mod Written
-pub mod Causes

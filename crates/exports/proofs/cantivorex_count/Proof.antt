@@ -3,7 +3,7 @@ use native.Mathlib.Omega.{arith}
 use denote.Ref.{now}
 use borrow.Author.Needs.{needs}
 use Rattle.files.proofs.Answers.{judged-fine}
-use Rattle.files.proofs.Causes.{fine-shape}
+use Rattle.files.proofs.Traces.{fine-shape}
 use Rattle.exports.proofs.Answers.{no-figures, some-figures, no-model}
 use Rattle.exports.proofs.cantivorex_count.Statement.{statement}
 use Rattle.exports.proofs.cantivorex_count.Tie as tie

@@ -16,15 +16,15 @@ use Rattle.records.proofs.Judging.{or-clear}
 use Rattle.records.specs.declared.Fault.{Fault}
 use Rattle.sections.specs.Sections.{tooLong, wrongVersion}
 use Rattle.sections.proofs.Fits.{neither, not-given}
 use Rattle.files.specs.Files.{Blamed, modelBytes, traceBytes, modelVersion, traceVersion}
-use Rattle.files.specs.Files.{shapeFault, modelFault, headsFault, filesFault, pairFault}
+use Rattle.files.specs.Files.{modelFault, headsFault, filesFault, pairFault}
 use Rattle.files.specs.Files.Blamed.{model, trace}
-use Rattle.files.specs.Causes.{ModelCause, TraceCause, Starts, ModelStarts, RightSizes, RightHeads, Cause, RightPair}
-use Rattle.files.proofs.Found.{either-found, given-found, Found}
-use Rattle.files.proofs.ModelCauses.{right-model, model-cause}
-use Rattle.files.proofs.TraceCauses.{trace-cause, trace-right}
-use Rattle.files.proofs.Wrong.{wrong-range}
+use Rattle.causes.specs.Causes.{ModelCause, TraceCause, Starts, ModelStarts, RightSizes, RightHeads, Cause, RightPair}
+use Rattle.causes.proofs.Found.{either-found, given-found, Found}
+use Rattle.causes.proofs.ModelCauses.{right-model, model-cause}
+use Rattle.causes.proofs.TraceCauses.{trace-cause, trace-right}
+use Rattle.causes.proofs.Wrong.{wrong-range}
 use Rattle.files.proofs.Traces.{file-then, not-long, fine-pair, trace-goal-known, trace-step-known}
 
 -- ---- versions
 
@@ -217,11 +217,6 @@ pub model-fault-range : (m : List ℕ) (f : Fault) → modelFault m ≡ some f �
 model-fault-range m =
     alone-cause m (λ k. (2 ≤ k) × (k ≤ 7)) (λ _. omega arith) (λ _ _. omega arith)
     (λ _ _ _ _ c. omega (arith, model-range c))
-
--- Without a fault it has none of 4 to 7.
-pub fine-shape : (m : List ℕ) → modelFault m ≡ none → shapeFault m ≡ none
-unfolding modelFault
-fine-shape m e = neither (wrongVersion modelVersion m) _ (neither (tooLong modelBytes m) _ e .1) .1
 
 -- ---- a right pair
 

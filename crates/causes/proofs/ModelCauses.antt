@@ -16,15 +16,16 @@ use Rattle.sections.specs.Sections.{sectionAt, fits, inSection, leftOver, reade
 use Rattle.sections.specs.declared.Role.{Role}
 use Rattle.sections.specs.declared.Role.the-variants.{Goals}
 use Rattle.sections.proofs.Fits.{fits-within, section-fine}
 use Rattle.files.specs.Files.{rolesOf, indexOf, placeOfRole, sectionOf, factCount, faultFrom, shapeFault}
-use Rattle.files.specs.Causes.{judgedRecords, recordIn, There, RightBefore, RightSection, ModelCause}
-use Rattle.files.specs.Causes.{RightModel}
-use Rattle.files.proofs.Wrong.{numberIn, number-some, number-none}
+use Rattle.files.specs.Files.{There}
+use Rattle.causes.specs.Causes.{judgedRecords, recordIn, RightBefore, RightSection, ModelCause}
+use Rattle.causes.specs.Causes.{RightModel}
+use Rattle.causes.proofs.Wrong.{numberIn, number-some, number-none}
 use Rattle.files.proofs.Roles.{role-there, role-at, section-there}
 use Rattle.files.proofs.Shaped.{role-fits, judged-section, file-end}
-use Rattle.files.proofs.Found.{either-found, given-found, Found, rest-found, moved-found, section-found}
-use Rattle.files.proofs.Found.{fits-is, unfit-is}
-use Rattle.files.proofs.Found.{first-at, judged-placed, reader-first}
+use Rattle.causes.proofs.Found.{either-found, given-found, Found, rest-found, moved-found, section-found}
+use Rattle.causes.proofs.Found.{fits-is, unfit-is}
+use Rattle.causes.proofs.Found.{first-at, judged-placed, reader-first}
 
 -- A section that fits and in which nothing is found is right.
 right-section : (m : List ℕ) (r : Role) → fits m (placeOfRole m r) ≡ true

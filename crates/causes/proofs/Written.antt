@@ -21,8 +21,8 @@ use Rattle.records.proofs.Words.{length-words, odd-is, words-two}
 use Rattle.records.proofs.Judging.{lists-cut, lists-none, or-clear}
 use Rattle.records.proofs.Lists.{cut-next, cut-short}
 use Rattle.lists.specs.Lists.{Cut}
 use Rattle.files.specs.Files.{clauseOf, ruleIn, goalIn}
-use Rattle.files.specs.Written.{twoBytes, factBytes, listBytes, recordBytes, clauseBytes, ruleBytes, goalBytes}
+use Rattle.causes.specs.Written.{twoBytes, factBytes, listBytes, recordBytes, clauseBytes, ruleBytes, goalBytes}
 
 -- each is a byte
 abbrev pub AllBytes : List ℕ → Type 0

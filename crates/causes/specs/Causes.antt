@@ -15,7 +15,7 @@ use Rattle.records.specs.declared.Kind.the-variants as kind
 use Rattle.sections.specs.Sections.{long, endAt, sectionAt}
 use Rattle.sections.specs.declared.Role.{Role}
 use Rattle.sections.specs.declared.Role.the-variants.{Sizes, Initial, Persistent, Clauses, Rules, Goals}
-use Rattle.files.specs.Files.{rolesOf, indexOf, placeOfRole, sectionOf, factCount, entriesOf, modelOf, traceOf}
+use Rattle.files.specs.Files.{rolesOf, indexOf, There, placeOfRole, sectionOf, factCount, entriesOf, modelOf, traceOf}
 
 -- ---- what can be wrong with a record, by number
 
@@ -87,10 +87,6 @@ Fits file at = at + 4 + long (drop at file) ≤ length file
 pub record RightSection (m : List ℕ) (r : Role) : Type 0 where
   pub fits : Fits m (placeOfRole m r)
   pub records : (n : ℕ) → n < length (judgedRecords r (sectionOf m r)) → (k : ℕ) → WrongIn m r n k → ⊥
-
--- the model has a section of the role
-abbrev pub There : List ℕ → Role → Type 0
-There m r = indexOf r (rolesOf m) < length (rolesOf m)
 
 -- every section before that of the role is right
 abbrev pub RightBefore : List ℕ → Role → Type 0

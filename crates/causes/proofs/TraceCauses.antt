@@ -18,13 +18,13 @@ use Rattle.records.proofs.Words.{words-two, length-words, odd-length, even-leng
 use Rattle.records.proofs.Judging.{or-clear}
 use Rattle.sections.specs.Sections.{endAt, sectionAt, fits, payload, inSection, leftOver, allOf}
 use Rattle.sections.proofs.Fits.{neither, not-given, section-fine, nothing-left}
 use Rattle.files.specs.Files.{entriesOf, modelOf, traceOf, traceShape, traceCount}
 use Rattle.files.specs.Files.{lacks, traceNames, traceFault}
-use Rattle.files.specs.Causes.{Ragged, RightTrace, TraceCause}
-use Rattle.files.proofs.Found.{either-found, given-found, Found, rest-found, moved-found, section-found}
-use Rattle.files.proofs.Found.{fits-is, unfit-is}
+use Rattle.causes.specs.Causes.{Ragged, RightTrace, TraceCause}
+use Rattle.causes.proofs.Found.{either-found, given-found, Found, rest-found, moved-found, section-found}
+use Rattle.causes.proofs.Found.{fits-is, unfit-is}
 use Rattle.files.proofs.Order.{all-fine}
-use Rattle.files.proofs.Named.{entry-word}
+use Rattle.causes.proofs.Named.{entry-word}
 
 -- A number for all of some bytes has its cause where the number has it.
 all-found : (number : Option ℕ) (bytes : List ℕ) (C : ℕ → List ℕ → Type 0) (g : Fault) → allOf number bytes ≡ some g

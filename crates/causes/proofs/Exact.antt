@@ -12,16 +12,17 @@ use Rattle.sections.specs.Sections.{tooLong, wrongVersion}
 use Rattle.sections.specs.declared.Role.{Role}
 use Rattle.sections.specs.declared.Role.the-variants.{Goals}
 use Rattle.sections.proofs.Fits.{neither}
 use Rattle.files.specs.Files.{Blamed, rolesOf, indexOf, placeOfRole, traceOf, modelBytes, modelVersion}
 use Rattle.files.specs.Files.{modelFault, pairFault}
 use Rattle.files.specs.Files.Blamed.{model, trace}
 use Rattle.files.specs.Answers.{blamedNumber}
-use Rattle.files.specs.Causes.{Fits, WrongIn, RightSection, ModelCause, RightModel, RightTrace, TraceCause}
-use Rattle.files.specs.Causes.{There, RightBefore, ModelStarts, RightSizes, RightHeads, Cause, RightPair}
+use Rattle.causes.specs.Causes.{Fits, WrongIn, RightSection, ModelCause, RightModel, RightTrace, TraceCause}
+use Rattle.files.specs.Files.{There}
+use Rattle.causes.specs.Causes.{RightBefore, ModelStarts, RightSizes, RightHeads, Cause, RightPair}
 use Rattle.files.proofs.Roles.{role-there}
 use Rattle.files.proofs.Traces.{not-long}
-use Rattle.files.proofs.ModelCauses.{right-model}
-use Rattle.files.proofs.Causes.{model-versions, starts, pair-cause, alone-cause, right-pair}
+use Rattle.causes.proofs.ModelCauses.{right-model}
+use Rattle.causes.proofs.Causes.{model-versions, starts, pair-cause, alone-cause, right-pair}
 
 -- ---- right or not
 

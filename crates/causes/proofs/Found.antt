@@ -22,8 +22,8 @@ use Rattle.sections.specs.declared.Role.{Role}
 use Rattle.sections.specs.declared.Role.the-variants.{Sizes, Initial, Persistent, Clauses, Rules, Goals}
 use Rattle.sections.proofs.Parts.{fit-ended, ended-size, within-fits}
 use Rattle.sections.proofs.Fits.{fits-within}
-use Rattle.files.specs.Causes.{judgedRecords, Fits}
-use Rattle.files.proofs.Wrong.{numberIn}
+use Rattle.causes.specs.Causes.{judgedRecords, Fits}
+use Rattle.causes.proofs.Wrong.{numberIn}
 
 -- ---- what is found
 

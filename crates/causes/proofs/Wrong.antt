@@ -21,7 +21,7 @@ use Rattle.records.proofs.Words.{odd-length, even-length}
 use Rattle.sections.specs.Sections.{sizes}
 use Rattle.sections.specs.declared.Role.{Role}
 use Rattle.sections.specs.declared.Role.the-variants.{Sizes, Initial, Persistent, Clauses, Rules, Goals}
-use Rattle.files.specs.Causes.{Unordered, WrongSizes, WrongFacts, WrongRecord, Wrong}
+use Rattle.causes.specs.Causes.{Unordered, WrongSizes, WrongFacts, WrongRecord, Wrong}
 
 -- ---- strictly ascending
 

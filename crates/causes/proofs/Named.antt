@@ -13,12 +13,12 @@ use Rattle.records.proofs.Words.{words-index, words-two, length-words}
 use Rattle.sections.specs.Sections.{sectionAt}
 use Rattle.sections.specs.declared.Role.the-variants.{Goals}
 use Rattle.sections.proofs.Parts.{fit-ended, ended-size}
 use Rattle.files.specs.Files.{placeOfRole, sectionOf, modelOf, entriesOf, traceOf, pairFault}
 use Rattle.files.specs.Answers.{bytesAt, partOf, entryPart, goalPart}
-use Rattle.files.proofs.Found.{inner, record-placed}
+use Rattle.causes.proofs.Found.{inner, record-placed}
 use Rattle.files.proofs.Roles.{always, section-there}
 use Rattle.files.proofs.Shaped.{role-ends}
 use Rattle.files.proofs.Traces.{fine-pair, trace-fits, trace-length, trace-goal-known}
 
 -- The two bytes at a number's place are that number.
 pub entry-word : (bytes : List ℕ) (i : ℕ) → i < length (words bytes)

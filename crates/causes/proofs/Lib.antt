@@ -1,0 +1,9 @@
+pub mod Wrong
+pub mod Found
+pub mod Named
+pub mod ModelCauses
+pub mod TraceCauses
+pub mod Causes
+pub mod Exact
+pub mod Alike
+pub mod Written

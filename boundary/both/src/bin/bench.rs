@@ -188,10 +188,31 @@ fn versions(desk: &Model) {
     for (case, trace) in [("A", write_trace(0, &[0])), ("B", write_trace(0, &[1, 0]))] {
         against(&format!("desk model, case {case}, empty section"), &newer, desk, &trace);
     }
+    let pairs = (0..).map(|i| gen::sound(11, i)).map(|p| (p.model, p.trace));
+    let night: Vec<_> = pairs.filter(|(model, _)| model[0] == 1).take(200).collect();
+    let newer: Vec<_> = night.iter().map(|(m, tr)| (with_empty_section(m), tr.clone())).collect();
+    let [ours, theirs] = [newer, night].map(|pairs| {
+        let (mut s, mut t) = ([0; 512], [0; 4_096]);
+        move || {
+            let check =
+                |(m, tr): &(Vec<u8>, Vec<u8>)| cantivorex::check(m, tr, &mut s, &mut t).rounds;
+            black_box(&pairs).iter().map(check).sum::<usize>() as u64
+        }
+    });
+    race("a night of 200 typical pairs, empty section", ours, theirs);
     let (all, trace) = (asking(Some((0..4_096).collect())), write_trace(0, &[0; 1_024]));
     against("4,096 persistent, 1,024 steps of 32 in P", &all, &asking(Some(vec![])), &trace);
     against("the same against version 1", &all, &asking(None), &trace);
     check("the same against the second program", &[(write_model(&all), trace)]);
+}
+
+/// A model of version 1 as one of version 2 without persistent facts: four bytes after its two first sections.
+fn with_empty_section(model: &[u8]) -> Vec<u8> {
+    let after = |at: usize| {
+        at + 4 + u32::from_be_bytes(model[at..at + 4].try_into().expect("a length")) as usize
+    };
+    let (head, rest) = model[1..].split_at(after(after(1)) - 1);
+    [&[2], head, &[0; 4], rest].concat()
 }
 
 /// The library with two models and one trace.

@@ -50,7 +50,12 @@ fn race(name: &str, mut ours: impl FnMut() -> u64, mut theirs: impl FnMut() -> u
     assert_eq!(ours(), theirs(), "{name}");
     let once = time(1, &mut ours).max(1.0);
     let times = (3e6 / once).clamp(1.0, 20_000.0) as u32;
-    let turns = if once > 3e7 { 3 } else { 9 };
+    // A short disturbance is long for a quick row.
+    let turns = match once {
+        ..1e5 => 33,
+        ..3e7 => 9,
+        _ => 3,
+    };
     let (mut a, mut b) = (f64::MAX, f64::MAX);
     for _ in 0..turns {
         a = a.min(time(times, &mut ours));

@@ -295,11 +295,5 @@ fn reading_13_the_longest_models() {
     let mut model = bare(40);
     model.rules = vec![rule(&up_to(32), &up_to(32), &up_to(32)); 327];
     model.rules.push(rule(&up_to(32), &up_to(17), &[]));
-    let mut bytes = write_model(&model);
-    assert_eq!(bytes.len(), 65_535);
-    assert_eq!(judge(&bytes, &write_trace(0, &[])).number, ATTACK);
-    bytes.push(0);
-    assert_eq!(place(judge(&bytes, &write_trace(0, &[]))), (SHAPE, MODEL, 65_535, 1));
-    bytes.push(0);
-    assert_eq!(place(judge(&bytes, &write_trace(0, &[]))), (LONG, MODEL, 0, 65_537));
+    is_longest(&model);
 }

@@ -318,11 +318,5 @@ fn the_longest_model_of_version_2() {
     let mut model = Model { persistent: Some(up_to(4_096)), ..bare(4_096) };
     model.rules = vec![rule(&up_to(32), &up_to(32), &up_to(32)); 286];
     model.rules.push(rule(&up_to(32), &up_to(19), &[]));
-    let mut bytes = write_model(&model);
-    assert_eq!(bytes.len(), 65_535);
-    assert_eq!(judge(&bytes, &write_trace(0, &[])).number, ATTACK);
-    bytes.push(0);
-    assert_eq!(place(judge(&bytes, &write_trace(0, &[]))), (SHAPE, MODEL, 65_535, 1));
-    bytes.push(0);
-    assert_eq!(place(judge(&bytes, &write_trace(0, &[]))), (LONG, MODEL, 0, 65_537));
+    is_longest(&model);
 }

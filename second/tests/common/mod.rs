@@ -1,6 +1,7 @@
-//! What both test files need.
+//! What more than one test file needs.
 #![allow(dead_code)]
 
+use second::gen::{write_model, write_trace};
 use second::*;
 
 /// The desk model byte by byte: its sections have their lengths at 1, 7, 17, 37 and 77.
@@ -65,4 +66,17 @@ pub fn bare(facts: u16) -> Model {
 
 pub fn up_to(end: u16) -> Vec<u16> {
     (0..end).collect()
+}
+
+/// The model is a true attack with no step and as long as a file may be: with a byte more it has a
+/// tail, with two it is too long.
+pub fn is_longest(model: &Model) {
+    let trace = write_trace(0, &[]);
+    let mut bytes = write_model(model);
+    assert_eq!(bytes.len(), 65_535);
+    assert_eq!(judge(&bytes, &trace).number, ATTACK);
+    bytes.push(0);
+    assert_eq!(place(judge(&bytes, &trace)), (SHAPE, MODEL, 65_535, 1));
+    bytes.push(0);
+    assert_eq!(place(judge(&bytes, &trace)), (LONG, MODEL, 0, 65_537));
 }

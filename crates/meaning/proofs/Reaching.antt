@@ -48,6 +48,10 @@ after-is kept r S f =
       ]),
     )
 
+-- the state after the model's rule k
+abbrev pub afterRule : Model → ℕ → State → State
+afterRule m k S = after (m .persistent) (ruleOf m k) S
+
 -- the closure by the model's clauses
 abbrev pub closed : Model → State → Facts
 closed m S = closure (m .clauses) (S .facts)
@@ -63,9 +67,10 @@ module _ (m : Model) where
 
   -- A rule of the model whose conditions are met leads on.
   pub fires : (k : ℕ) (S : State) → k < length (m .rules) → Meets (closed m S) (ruleOf m k .P) (ruleOf m k .N)
-      → Transition m k S (after (m .persistent) (ruleOf m k) S)
+      → Transition m k S (afterRule m k S)
   fires k S l u =
-      record { rule = l; closure = closed m S; isHC = closed-is S; meets = u; next = after-is (m .persistent) (ruleOf m k) S }
+      let next = after-is (m .persistent) (ruleOf m k) S in
+      record { rule = l; closure = closed m S; isHC = closed-is S; meets = u; next = next }
 
   -- after n of the steps, in S: they are all, or a condition of the next one is the first that is unmet
   abbrev Stops : List ℕ → ℕ → State → Option Condition → Type 0
@@ -91,14 +96,14 @@ module _ (m : Model) where
   reach-leads [] h S = (here, zero-add _, refl)
   reach-leads (k ∷ ks) h S =
       go (unmetIn S k) refl (unmet-is (closed m S) (ruleOf m k .P) (ruleOf m k .N))
-      (reach-leads ks (λ j i. h j (List·Memᴰ·tail i)) (after (m .persistent) (ruleOf m k) S))
+      (reach-leads ks (λ j i. h j (List·Memᴰ·tail i)) (afterRule m k S))
     where
       go : (u : Option Condition) → unmetIn S k ≡ u → Met (closed m S) (ruleOf m k .P) (ruleOf m k .N) u
-          → Leads (after (m .persistent) (ruleOf m k) S) ks (reach m (after (m .persistent) (ruleOf m k) S) ks) → Leads S (k ∷ ks) (reach m S (k ∷ ks))
+          → Leads (afterRule m k S) ks (reach m (afterRule m k S) ks) → Leads S (k ∷ ks) (reach m S (k ∷ ks))
       go none i u (p, e, s) = rw (i, reach) (
         step (fires k S (h k (List·Memᴰ·head refl)) u) p,
-        add-assoc _ (reach m (after (m .persistent) (ruleOf m k) S) ks .earlier) _ ∙ ap (λ n. rounds (m .clauses) (S .facts) + n) e,
-        stops-onward k _ ks _ (reach m (after (m .persistent) (ruleOf m k) S) ks .stop) s,
+        add-assoc _ (reach m (afterRule m k S) ks .earlier) _ ∙ ap (λ n. rounds (m .clauses) (S .facts) + n) e,
+        stops-onward k _ ks _ (reach m (afterRule m k S) ks .stop) s,
       )
       go (some c) i u l = rw (i, reach) (here, zero-add _, (omega arith, u))
 

@@ -11,7 +11,7 @@ use lib.Seq.{take-length, length-take-le}
 use Rattle.sets.specs.Sets.{Facts, size, _∈_}
 use Rattle.meaning.specs.Model.{Rule, Model, Trace, State, ruleOf, goalOf}
 use Rattle.meaning.specs.Rounds.{rounds}
-use Rattle.meaning.specs.Run.{Condition, conditions, unmet, after, Reached, stays, onward, reach}
+use Rattle.meaning.specs.Run.{Condition, conditions, unmet, Reached, stays, onward, reach}
 use Rattle.meaning.specs.Run.{Ending, asked, ending, Outcome, outcomeOf}
 use Rattle.meaning.specs.Published.{HC, Next, Transition, Path, TrueAttack}
 use Rattle.meaning.specs.Published.Path.{here, step}
@@ -20,7 +20,7 @@ use Rattle.meaning.specs.Promises.EndsSo.{attack, blocked, notMet}
 use Rattle.sets.proofs.Laws.{same-test}
 use Rattle.meaning.proofs.Closing.{HC-unique}
 use Rattle.meaning.proofs.Meeting.{Met, unmet-from}
-use Rattle.meaning.proofs.Reaching.{after-is, closed, closed-is, unmetIn}
+use Rattle.meaning.proofs.Reaching.{afterRule, after-is, closed, closed-is, unmetIn}
 use Rattle.meaning.proofs.Runs.{ahead, ahead-none, onward-ahead, reach-fires, step-stops, steps-end}
 
 -- The state after a rule is one state.
@@ -41,7 +41,7 @@ module _ {m : Model} where
   fired-met {k} t = on-closure m (ruleOf m k .P) (ruleOf m k .N) none (t .isHC) (t .meets)
 
   -- It leads to the state after it.
-  pub fired-after : {k : ℕ} {S S' : State} → Transition m k S S' → S' ≡ after (m .persistent) (ruleOf m k) S
+  pub fired-after : {k : ℕ} {S S' : State} → Transition m k S S' → S' ≡ afterRule m k S
   fired-after {k} {S} t = next-unique (m .persistent) (ruleOf m k) S (t .next) (after-is (m .persistent) (ruleOf m k) S)
 
   -- A transition is one step more.

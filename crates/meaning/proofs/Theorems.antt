@@ -21,7 +21,7 @@ use Rattle.meaning.specs.Promises.FirstUnmet.{absent, present}
 use Rattle.sets.proofs.Laws.{passes, fails, by-test, both, every-in, every-intro, one-number}
 use Rattle.meaning.proofs.Closing
 use Rattle.meaning.proofs.Meeting.{unmet-none, unmet-some, first-absent, first-present}
-use Rattle.meaning.proofs.Reaching.{after-is, fires, run-is-from}
+use Rattle.meaning.proofs.Reaching.{afterRule, after-is, fires, run-is-from}
 use Rattle.meaning.proofs.Running.{fired-met, fired-after, is-run-from, path-sum, path-rules}
 use Rattle.meaning.proofs.Running.{attack-outcome, outcome-attack}
 
@@ -197,11 +197,11 @@ pub fires-exactly : (m : Model) (k : ℕ) (S : State) → k < length (m .rules)
     ↔ (unmet (closure (m .clauses) (S .facts)) (conditions (ruleOf m k .P) (ruleOf m k .N)) ≡ none)
 fires-exactly m k S l = (
   λ (S', t). fired-met t,
-  λ e. (after (m .persistent) (ruleOf m k) S, fires m k S l (unmet-none _ (ruleOf m k .P) (ruleOf m k .N) .0 e)),
+  λ e. (afterRule m k S, fires m k S l (unmet-none _ (ruleOf m k .P) (ruleOf m k .N) .0 e)),
 )
 
 -- It leads to the state after it and to no other.
-pub fires-once : {m : Model} {k : ℕ} {S S' : State} → Transition m k S S' → S' ≡ after (m .persistent) (ruleOf m k) S
+pub fires-once : {m : Model} {k : ℕ} {S S' : State} → Transition m k S S' → S' ≡ afterRule m k S
 fires-once = fired-after
 
 -- A rule with a fact in both P and N never fires.

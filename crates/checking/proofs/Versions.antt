@@ -1,5 +1,5 @@
--- For a model of version 1 nothing changed: a model of the same lists without persistent facts has the same verdicts, and
--- leaves the same in what is lent.
+-- For a model of version 1 nothing changed: a model of the same lists without persistent facts has the same verdicts,
+-- and leaves the same in what is lent.
 use Prim.Native.Nat.{ℕ}
 use mathlib.Core.Path.{_≡_, refl, sym, ap, subst, _∙_}
 use mathlib.Core.List.{List}

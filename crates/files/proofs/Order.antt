@@ -78,7 +78,8 @@ module _ (file : List ℕ) (F : ℕ) where
       → Onward file F 0 1 (record { clauses = 0; rules = 0; goals = 0 })
   unfolding shapeFault faultFrom rolesOf roles sectionAt reader inSection
   onward-start told = record {
-    fault = by-facts (inSection (reader Sizes F) file 1) (λ k. faultFrom (drop 1 (rolesOf file)) k file (endAt file 1)) told;
+    fault =
+        by-facts (inSection (reader Sizes F) file 1) (λ k. faultFrom (drop 1 (rolesOf file)) k file (endAt file 1)) told;
     counts = start-counts;
   }
 

@@ -33,7 +33,8 @@ use Rattle.checking.proofs.running.search.Statement.{statement}
 use Rattle.checking.proofs.running.search.Tie as tie
 
 abbrev Inv-loop : tie.InvT-loop
-Inv-loop model trace state table entries steps persistent fired rounds rule p n count i₀ i = Looking p n (numbered table) i
+Inv-loop model trace state table entries steps persistent fired rounds rule p n count i₀ i =
+    Looking p n (numbered table) i
 
 abbrev μ-loop : tie.MeasureT-loop
 μ-loop model trace state table entries steps persistent fired rounds rule p n count i₀ i = count - i

@@ -65,7 +65,8 @@ module _ (c : tie.Joined1 Inv-loop μ-loop) where
       let removed = w .2 .ensures in
       let other = sym known ∙ not-true _ (w .0 .taken) in
       subst Done (sym (w .5)) (record {
-        facts = λ g. removed .set g ∙ sym (takes (listed (words persistent)) fact other g (members (loop .loop .state) g));
+        facts = λ g.
+            removed .set g ∙ sym (takes (listed (words persistent)) fact other g (members (loop .loop .state) g));
         kept = removed .kept;
       }))
       (λ w.

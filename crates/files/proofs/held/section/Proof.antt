@@ -41,7 +41,8 @@ returns c =
     let role = start .args .role in
     let is = c .before .before .before .place-of .ensures in
     there-or-absent file role
-    (λ there. absurd (true≢false (sym (role-fits file (start .pre) role there) ∙ ap (fits file) (sym is) ∙ unfit (c .before))))
+    (λ there.
+    absurd (true≢false (sym (role-fits file (start .pre) role there) ∙ ap (fits file) (sym is) ∙ unfit (c .before))))
     (λ absent. sym (section-absent file role absent))
 
 add-start : tie.Need-add-start

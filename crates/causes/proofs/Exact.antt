@@ -1,25 +1,24 @@
 -- A pair has no fault exactly if it is right, and its fault has a number exactly if that number's cause is there.
 use Prim.Native.Nat.{ℕ, _≤_, _<_}
-use mathlib.Core.Path.{_≡_, refl, sym, ap, _∙_, subst}
+use mathlib.Core.Path.{_≡_, refl, sym, _∙_, subst}
 use mathlib.Core.Logic.{_↔_, _⊎_, inl, inr, ⊎-elim}
 use mathlib.Core.List.{List}
 use mathlib.Core.Option.{Option, none, some}
 use native.Mathlib.Omega.{arith}
-use lib.ListN.{length, getD}
+use lib.ListN.{length}
 use Rattle.sets.proofs.Laws.{below-or-from}
 use Rattle.records.specs.declared.Fault.{Fault}
 use Rattle.sections.specs.Sections.{tooLong, wrongVersion}
 use Rattle.sections.specs.declared.Role.{Role}
-use Rattle.sections.specs.declared.Role.the-variants.{Goals}
 use Rattle.sections.proofs.Fits.{neither}
-use Rattle.files.specs.Files.{Blamed, rolesOf, indexOf, placeOfRole, traceOf, modelBytes, modelVersion}
+use Rattle.files.specs.Files.{Blamed, tag, placeOfRole, traceOf, modelBytes, modelVersion}
 use Rattle.files.specs.Files.{modelFault, pairFault}
 use Rattle.files.specs.Files.Blamed.{model, trace}
 use Rattle.files.specs.Answers.{blamedNumber}
 use Rattle.causes.specs.Causes.{Fits, WrongIn, RightSection, ModelCause, RightModel, RightTrace, TraceCause}
 use Rattle.files.specs.Files.{There}
 use Rattle.causes.specs.Causes.{RightBefore, ModelStarts, RightSizes, RightHeads, Cause, RightPair}
-use Rattle.files.proofs.Roles.{role-there}
+use Rattle.files.proofs.Roles.{same-role}
 use Rattle.files.proofs.Traces.{not-long}
 use Rattle.causes.proofs.ModelCauses.{right-model}
 use Rattle.causes.proofs.Causes.{model-versions, starts, pair-cause, alone-cause, right-pair}
@@ -63,10 +62,8 @@ module _ (m : List ℕ) where
   one-role : (r q : Role) → There m r → There m q → RightBefore m r → RightBefore m q
       → (RightSection m r → ⊥) → (RightSection m q → ⊥) → r ≡ q
   one-role r q there-r there-q before-r before-q wrong-r wrong-q =
-      let rs = rolesOf m in
-      let same : indexOf r rs ≡ indexOf q rs =
-      one-of (indexOf r rs) (indexOf q rs) (λ h. wrong-r (before-q r h)) (λ h. wrong-q (before-r q h)) in
-      sym (role-there rs r there-r) ∙ ap (λ i. getD rs i Goals) same ∙ role-there rs q there-q
+      same-role r q
+      (one-of (tag r) (tag q) (λ h. wrong-r (before-q r there-r h)) (λ h. wrong-q (before-r q there-q h)))
 
   -- what is wrong first with a section that fits has one number
   one-wrong : (r : Role) {k j : ℕ} (n i : ℕ) → ((a b : ℕ) → a < n → WrongIn m r a b → ⊥)
@@ -89,11 +86,13 @@ module _ (m : List ℕ) where
       absurd (right q in-q .records n there k w)
   model-number (ModelCause.wrong {k} r in-r before fit n there earlier w least) (ModelCause.after right more) =
       absurd (right r in-r .records n there k w)
-  model-number (ModelCause.unfit r in-r before short) (ModelCause.wrong {k} q in-q before-q fit n there earlier w least) =
+  model-number (ModelCause.unfit r in-r before short)
+      (ModelCause.wrong {k} q in-q before-q fit n there earlier w least) =
       let wrong : RightSection m q → ⊥ = λ right. right .records n there k w in
       let same : r ≡ q = one-role r q in-r in-q before before-q (λ right. short (right .fits)) wrong in
       absurd (subst (λ r. Fits m (placeOfRole m r) → ⊥) same short fit)
-  model-number (ModelCause.wrong {k} q in-q before-q fit n there earlier w least) (ModelCause.unfit r in-r before short) =
+  model-number (ModelCause.wrong {k} q in-q before-q fit n there earlier w least)
+      (ModelCause.unfit r in-r before short) =
       let wrong : RightSection m q → ⊥ = λ right. right .records n there k w in
       let same : r ≡ q = one-role r q in-r in-q before before-q (λ right. short (right .fits)) wrong in
       absurd (subst (λ r. Fits m (placeOfRole m r) → ⊥) same short fit)

@@ -21,7 +21,7 @@ use Rattle.files.specs.Files.{There}
 use Rattle.causes.specs.Causes.{judgedRecords, recordIn, RightBefore, RightSection, ModelCause}
 use Rattle.causes.specs.Causes.{RightModel}
 use Rattle.causes.proofs.Wrong.{numberIn, number-some, number-none}
-use Rattle.files.proofs.Roles.{role-there, role-at, section-there}
+use Rattle.files.proofs.Roles.{role-there, role-at, in-order, section-there}
 use Rattle.files.proofs.Shaped.{role-fits, judged-section, file-end}
 use Rattle.causes.proofs.Found.{either-found, given-found, Found, rest-found, moved-found, section-found}
 use Rattle.causes.proofs.Found.{fits-is, unfit-is}
@@ -157,7 +157,9 @@ model-cause m some-byte f e = ⊎-elim there left (s .here)
         let r = getD rs (s .index) Goals in
         let is : indexOf r rs ≡ s .index = role-at (getD m 0 0) (s .index) l in
         let place : placeOfRole m r ≡ sectionAt m (s .index) = rw is in
-        section-cause m r (omega arith) (λ q h. right q (omega arith) (omega arith)) f
+        let there-r : There m r = omega arith in
+        let before : RightBefore m r = λ q there-q h. right q (rw is at (in-order m q r there-q there-r h)) there-q in
+        section-cause m r there-r before f
         (rw place (reached m f some-byte (s .index) (s .clear))) (rw place (rw zero-add at found))
 
     left : (s .index ≡ length rs) × (leftOver m (sectionAt m (0 + s .index)) ≡ some f) → Found m (ModelCause m) f

@@ -15,7 +15,7 @@ use Rattle.records.specs.declared.Kind.the-variants as kind
 use Rattle.sections.specs.Sections.{long, endAt, sectionAt}
 use Rattle.sections.specs.declared.Role.{Role}
 use Rattle.sections.specs.declared.Role.the-variants.{Sizes, Initial, Persistent, Clauses, Rules, Goals}
-use Rattle.files.specs.Files.{rolesOf, indexOf, There, placeOfRole, sectionOf, factCount, entriesOf, modelOf, traceOf}
+use Rattle.files.specs.Files.{rolesOf, tag, There, placeOfRole, sectionOf, factCount, entriesOf, modelOf, traceOf}
 
 -- ---- what can be wrong with a record, by number
 
@@ -88,9 +88,9 @@ pub record RightSection (m : List ℕ) (r : Role) : Type 0 where
   pub fits : Fits m (placeOfRole m r)
   pub records : (n : ℕ) → n < length (judgedRecords r (sectionOf m r)) → (k : ℕ) → WrongIn m r n k → ⊥
 
--- every section before that of the role is right
+-- every section of the model that comes before that of the role in the order of the documents is right
 abbrev pub RightBefore : List ℕ → Role → Type 0
-RightBefore m r = (q : Role) → indexOf q (rolesOf m) < indexOf r (rolesOf m) → RightSection m q
+RightBefore m r = (q : Role) → There m q → tag q < tag r → RightSection m q
 
 -- where the last section of a model ends
 abbrev pub modelEnd : List ℕ → ℕ
@@ -144,8 +144,8 @@ pub data TraceCause (m t : List ℕ) : ℕ → List ℕ → Type 0 where
 
 -- ---- the pair
 
--- "a file empty, or first byte not 1", for a model "neither 1 nor 2" (document 02, wish 2): otherwise it starts with one
--- of the versions
+-- "a file empty, or first byte not 1", for a model "neither 1 nor 2" (document 02, wish 2): otherwise it starts with
+-- one of the versions
 unfoldable pub Starts : List ℕ → List ℕ → Type 0
 Starts versions file = (v : ℕ) × (v ∈ versions) × (rest : List ℕ) × (file ≡ v ∷ rest)
 

@@ -4,13 +4,15 @@ use Prim.Native.Nat.{ℕ, zero, suc, _≤_, _<_}
 use mathlib.Core.Path.{_≡_, refl, sym, ap, subst, _∙_}
 use mathlib.Core.Logic.{⊎-elim}
 use mathlib.Core.Bool.{true, false, true≢false}
-use mathlib.Core.List.{List, [], _∷_}
+use mathlib.Core.List.{List, [], _∷_, map}
 use native.Mathlib.Nat.{not-suc-le-zero, le-of-suc-le-suc}
 use native.Mathlib.Omega.{arith}
 use borrow.Author.Tests.{lt-ltb, ltb-true, eqb-true, lt-leb, le-leb}
 use lib.Dec.{ltb, eqb, lit<}
-use lib.ListN.{length, getD}
+use lib.ListN.{length, getD, length-map}
 use Rattle.sets.proofs.Laws.{by-test, below-or-from}
+use Rattle.records.specs.Words.{ascending}
+use Rattle.lists.proofs.Sorted.{ascending-at}
 use Rattle.sections.specs.Sections.{payload}
 use Rattle.sections.specs.declared.Role.{Role}
 use Rattle.sections.specs.declared.Role.the-variants.{Sizes, Initial, Persistent, Clauses, Rules, Goals}
@@ -84,7 +86,7 @@ tagged Rules = refl
 tagged Goals = refl
 
 -- Roles of one number are one role.
-same-role : (r q : Role) → tag r ≡ tag q → r ≡ q
+pub same-role : (r q : Role) → tag r ≡ tag q → r ≡ q
 same-role r q e = sym (tagged r) ∙ ap (λ n. getD two n Goals) e ∙ tagged q
 
 -- No place is past the last.
@@ -101,6 +103,35 @@ role-there [] r h = absurd (not-suc-le-zero h)
 role-there (x ∷ xs) r h =
     by-test (eqb (tag r) (tag x)) (λ e. rw e (sym (same-role r x (eqb-true _ _ e))))
     (λ e. rw e (role-there xs r (le-of-suc-le-suc (rw e at h))))
+
+-- The number at a role's place is its number.
+tag-there : (rs : List Role) (r : Role) → indexOf r rs < length rs → getD (map tag rs) (indexOf r rs) 0 ≡ tag r
+unfolding indexOf
+tag-there [] r h = absurd (not-suc-le-zero h)
+tag-there (x ∷ xs) r h =
+    by-test (eqb (tag r) (tag x)) (λ e. rw e (sym (eqb-true _ _ e)))
+    (λ e. rw e (tag-there xs r (le-of-suc-le-suc (rw e at h))))
+
+-- The sections stand in the order of their roles.
+pub in-order : (file : List ℕ) (q r : Role) → There file q → There file r → tag q < tag r
+    → indexOf q (rolesOf file) < indexOf r (rolesOf file)
+unfolding rolesOf ascending tag
+in-order file q r there-q there-r less =
+    ⊎-elim (λ h. h) (λ h. absurd (⊎-elim later (λ l. same (omega arith)) (below-or-from _ _))) (below-or-from _ _)
+  where
+    rs : List Role
+    rs = rolesOf file
+
+    sorted : ascending (map tag rs) ≡ true
+    sorted = by-version (λ rs. ascending (map tag rs) ≡ true) refl refl (getD file 0 0)
+
+    later : indexOf r rs < indexOf q rs → ⊥
+    later h =
+        let up = ascending-at (map tag rs) sorted (indexOf r rs) (indexOf q rs) h (rw length-map there-q) in
+        omega (arith, rw (tag-there rs r there-r, tag-there rs q there-q) at up)
+
+    same : indexOf q rs ≡ indexOf r rs → ⊥
+    same e = omega (arith, sym (tag-there rs q there-q) ∙ ap (λ i. getD (map tag rs) i 0) e ∙ tag-there rs r there-r)
 
 -- The place of the role at a place is that place.
 pub role-at : (version i : ℕ) → i < length (roles version) → indexOf (getD (roles version) i Goals) (roles version) ≡ i

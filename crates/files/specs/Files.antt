@@ -34,7 +34,7 @@ unfoldable pub rolesOf : List ℕ → List Role
 unfolding roles
 rolesOf file = roles (getD file 0 0)
 
--- a number for each role, to tell them apart
+-- a role's place in the order of the documents, over all versions
 unfoldable pub tag : Role → ℕ
 tag Sizes = 0
 tag Initial = 1

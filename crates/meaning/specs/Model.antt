@@ -10,11 +10,13 @@ pub record Clause : Type 0 where
   pub head : ℕ
   pub body : List ℕ
 
--- "A rule has positive conditions P, negative conditions N and added facts A."
+-- "A rule has positive conditions P, negative conditions N and added facts A."; "and a fourth list in each rule, the
+-- names it makes" (document 02, wish 9), which rules of versions 1 and 2 have none of
 pub record Rule : Type 0 where
   pub P : List ℕ
   pub N : List ℕ
   pub A : List ℕ
+  pub names : List ℕ
 
 -- "An attack state has P and N."
 pub record Goal : Type 0 where
@@ -22,11 +24,13 @@ pub record Goal : Type 0 where
   pub N : List ℕ
 
 -- "Model sections, in order": the fact count F, initial facts, clauses, rules, attack states; with "the persistent
--- facts" (document 02, wish 2), which a model of version 1 has none of
+-- facts" (document 02, wish 2), which a model of version 1 has none of, and "names in use at the start" (wish 9), which
+-- one of version 1 or 2 has none of
 pub record Model : Type 0 where
   pub F : ℕ
   pub initial : List ℕ
   pub persistent : List ℕ
+  pub names : List ℕ
   pub clauses : List Clause
   pub rules : List Rule
   pub goals : List Goal
@@ -39,16 +43,17 @@ pub record Trace : Type 0 where
 -- "Records are numbered from 0.": the rule and the attack state of a number; one with empty lists where the model
 -- lacks it
 unfoldable pub ruleOf : Model → ℕ → Rule
-ruleOf m k = getD (m .rules) k (record { P = []; N = []; A = [] })
+ruleOf m k = getD (m .rules) k (record { P = []; N = []; A = []; names = [] })
 
 unfoldable pub goalOf : Model → ℕ → Goal
 goalOf m g = getD (m .goals) g (record { P = []; N = [] })
 
--- "A state is a set of facts below F"
+-- "A state is a set of facts below F"; "The state now carries a set of used names" (document 02, wish 9)
 pub record State : Type 0 where
   pub facts : Facts
+  pub names : Facts
 
--- the initial state: the initial facts and no others
+-- the initial state: the initial facts and no others, the "names in use at the start" and no others
 unfoldable pub start : Model → State
 unfolding listed
-start m = record { facts = listed (m .initial) }
+start m = record { facts = listed (m .initial); names = listed (m .names) }

@@ -2,15 +2,15 @@
 -- proofs/Theorems.antt proves each of them.
 use Prim.Native.Nat.{ℕ, _+_, _<_}
 use mathlib.Core.Path.{_≡_}
-use mathlib.Core.List.{List, _∷_, _++_, List·Nodup}
+use mathlib.Core.List.{List, [], _∷_, _++_, List·Nodup}
 use lib.Dec.{T}
 use lib.ListN.{length, getD, take}
 use Rattle.sets.specs.Sets.{Facts, size, _∈_}
-use Rattle.meaning.specs.Model.{Clause, Model, Trace, State, ruleOf, goalOf, start}
+use Rattle.meaning.specs.Model.{Clause, Rule, Model, Trace, State, ruleOf, goalOf, start}
 use Rattle.meaning.specs.Rounds.{round, rounds, closure}
 use Rattle.meaning.specs.Run.{Condition, Ending, Outcome}
-use Rattle.meaning.specs.Run.Condition.{positive, negative}
-use Rattle.meaning.specs.Published.{HC, Path, AttackMet}
+use Rattle.meaning.specs.Run.Condition.{positive, negative, unused}
+use Rattle.meaning.specs.Published.{HC, Meets, Fresh, Path, AttackMet}
 use Rattle.meaning.specs.Published.Path.{here, step}
 
 -- n is the number of rounds: "the first round that equals the next one", and no round after it adds a fact
@@ -32,12 +32,19 @@ pub record IsRoundNumber (cs : List Clause) (S : Facts) (f n : ℕ) : Type 0 whe
   pub outside : (T (closure cs S f) → ⊥) → n ≡ 65535
 
 -- The first condition not met in X: a fact of P that is not in X, all of P before it being in X; or, where all of P
--- is in X, a fact of N that is in X, none of N before it being so.
-pub data FirstUnmet (X : Facts) (P N : List ℕ) : Condition → Type 0 where
+-- is in X, a fact of N that is in X, none of N before it being so; or, where all of these are met, a name that is used,
+-- none before it being so.
+pub data FirstUnmet (X used : Facts) (P N names : List ℕ) : Condition → Type 0 where
   absent : {f : ℕ} (met rest : List ℕ) → P ≡ met ++ f ∷ rest → ((b : ℕ) → b ∈ met → T (X b)) → (T (X f) → ⊥)
-      → FirstUnmet X P N (positive f)
+      → FirstUnmet X used P N names (positive f)
   present : {f : ℕ} → ((b : ℕ) → b ∈ P → T (X b)) → (met rest : List ℕ) → N ≡ met ++ f ∷ rest
-      → ((b : ℕ) → b ∈ met → T (X b) → ⊥) → T (X f) → FirstUnmet X P N (negative f)
+      → ((b : ℕ) → b ∈ met → T (X b) → ⊥) → T (X f) → FirstUnmet X used P N names (negative f)
+  inUse : {n : ℕ} → Meets X P N → (met rest : List ℕ) → names ≡ met ++ n ∷ rest → Fresh used met → T (used n)
+      → FirstUnmet X used P N names (unused n)
+
+-- that of a rule, in a state whose closure is X
+abbrev pub FirstUnmetOf : Facts → State → Rule → Condition → Type 0
+FirstUnmetOf X S r = FirstUnmet X (S .names) (r .P) (r .N) (r .names)
 
 -- "the sum of the round counts of all states reached, the initial one included"
 unfoldable pub roundsOn : {m : Model} {S S' : State} {ks : List ℕ} → Path m S ks S' → ℕ
@@ -51,10 +58,10 @@ pub data EndsSo (m : Model) (g : ℕ) (ks : List ℕ) (o : Outcome) : Type 0 whe
   attack : o .ending ≡ Ending.attack → o .step ≡ length ks → AttackMet m g (o .state) → EndsSo m g ks o
   blocked : (c : Condition) → o .ending ≡ Ending.blocked c → o .step < length ks
       → (X : Facts) → HC (m .clauses) (o .state .facts) X
-      → FirstUnmet X (ruleOf m (getD ks (o .step) 0) .P) (ruleOf m (getD ks (o .step) 0) .N) c → EndsSo m g ks o
+      → FirstUnmetOf X (o .state) (ruleOf m (getD ks (o .step) 0)) c → EndsSo m g ks o
   notMet : (c : Condition) → o .ending ≡ Ending.notMet c → o .step ≡ length ks
       → (X : Facts) → HC (m .clauses) (o .state .facts) X
-      → FirstUnmet X (goalOf m g .P) (goalOf m g .N) c → EndsSo m g ks o
+      → FirstUnmet X (o .state .names) (goalOf m g .P) (goalOf m g .N) [] c → EndsSo m g ks o
 
 -- o is the outcome of the run from S, in document 003's terms: the steps before the one named are transitions to the
 -- last state reached, and there it ends

@@ -25,9 +25,13 @@ pub record Meets (X : Facts) (P N : List ℕ) : Type 0 where
 
 -- "S' = S \ I(PosE(L)) ∪ I(S_R)", where PosE leaves out the persistent facts of P. That 003 leaves out the clause heads
 -- too is not taken over (docs/DECISIONS.md, "Meaning").
-unfoldable pub Next : List ℕ → Rule → State → State → Type 0
-Next persistent r S S' =
-    (f : ℕ) → T (S' .facts f) ↔ ((T (S .facts f) × (f ∈ r .P → f ∈ persistent)) ⊎ f ∈ r .A)
+pub record Next (persistent : List ℕ) (r : Rule) (S S' : State) : Type 0 where
+  pub facts : (f : ℕ) → T (S' .facts f) ↔ ((T (S .facts f) × (f ∈ r .P → f ∈ persistent)) ⊎ f ∈ r .A)
+  pub names : (n : ℕ) → T (S' .names n) ↔ (T (S .names n) ⊎ n ∈ r .names)
+
+-- "fresh constants": no name of the list is in use (docs/DECISIONS.md, "Meaning", says how 003's fresh is taken)
+abbrev pub Fresh : Facts → List ℕ → Type 0
+Fresh used names = (n : ℕ) → n ∈ names → T (used n) → ⊥
 
 -- "S ⇒ S'" by the model's rule k
 pub record Transition (m : Model) (k : ℕ) (S S' : State) : Type 0 where
@@ -35,6 +39,7 @@ pub record Transition (m : Model) (k : ℕ) (S S' : State) : Type 0 where
   pub closure : Facts
   pub isHC : HC (m .clauses) (S .facts) closure
   pub meets : Meets closure (ruleOf m k .P) (ruleOf m k .N)
+  pub fresh : Fresh (S .names) (ruleOf m k .names)
   pub next : Next (m .persistent) (ruleOf m k) S S'
 
 -- the rules of the list, one after the other, lead from S to S'

@@ -12,38 +12,48 @@ use Rattle.meaning.specs.Rounds.{rounds, closure}
 
 -- ---- conditions
 
--- "positive conditions P, negative conditions N": one of them, with its fact
+-- "positive conditions P, negative conditions N": one of them, with its fact; "A rule fires only if all its names are
+-- unused" (document 02, wish 9): that of a name
 pub data Condition : Type 0 where
   positive : ℕ → Condition
   negative : ℕ → Condition
+  unused : ℕ → Condition
 
--- "every fact of P and no fact of N is in the closure"
-unfoldable pub met : Facts → Condition → Bool
-met X (positive f) = X f
-met X (negative f) = not (X f)
+-- "every fact of P and no fact of N is in the closure", all names "are unused": by a closure and the used names
+unfoldable pub met : Facts → Facts → Condition → Bool
+met X used (positive f) = X f
+met X used (negative f) = not (X f)
+met X used (unused n) = not (used n)
 
--- "P in its order and then N in its order"
-unfoldable pub conditions : List ℕ → List ℕ → List Condition
-conditions P N = map positive P ++ map negative N
+-- "P in its order and then N in its order"; a used name comes "after the step's conditions"
+unfoldable pub conditions : List ℕ → List ℕ → List ℕ → List Condition
+conditions P N names = map positive P ++ map negative N ++ map unused names
 
 -- the first entry of the list that passes the test
 unfoldable pub find {ℓ} : {A : Type ℓ} → (A → Bool) → List A → Option A
 find p [] = none
 find p (x ∷ xs) = elim (p x) [ true ↦ some x | false ↦ find p xs ]
 
--- "the first unmet condition": the first of them that the set doesn't meet
-unfoldable pub unmet : Facts → List Condition → Option Condition
+-- "the first unmet condition": the first of them that isn't met
+unfoldable pub unmet : Facts → Facts → List Condition → Option Condition
 unfolding find met
-unmet X = find (λ c. not (met X c))
+unmet X used = find (λ c. not (met X used c))
+
+-- the first unmet condition of a rule in a state
+unfoldable pub unmetOf : Model → State → Rule → Option Condition
+unfolding unmet conditions closure
+unmetOf m S r = unmet (closure (m .clauses) (S .facts)) (S .names) (conditions (r .P) (r .N) (r .names))
 
 -- ---- the steps
 
 -- "A step removes from the state only those of P that aren't persistent, and stores nothing else but A." (document 02,
--- wish 2; with no persistent facts it is document 01's "(S without P) together with A")
+-- wish 2; with no persistent facts it is document 01's "(S without P) together with A"). "Firing uses them, and nothing
+-- frees them." (wish 9)
 unfoldable pub after : List ℕ → Rule → State → State
 unfolding listed
 after persistent r S = record {
   facts = λ f. S .facts f && not (listed (r .P) f && not (listed persistent f)) || listed (r .A) f;
+  names = λ n. S .names n || listed (r .names) n;
 }
 
 -- Where some steps lead: how many of them fire, the rounds of all states before the last one reached, that state, and
@@ -64,17 +74,17 @@ onward n r = record { fired = suc (r .fired); earlier = n + r .earlier; state = 
 
 -- the steps from a state on, until one can't fire
 unfoldable pub reach : Model → State → List ℕ → Reached
-unfolding unmet conditions closure ruleOf stays onward after
+unfolding unmetOf ruleOf stays onward after
 reach m S [] = stays S none
 reach m S (k ∷ ks) =
-    elim (unmet (closure (m .clauses) (S .facts)) (conditions (ruleOf m k .P) (ruleOf m k .N))) [
+    elim (unmetOf m S (ruleOf m k)) [
       | none ↦ onward (rounds (m .clauses) (S .facts)) (reach m (after (m .persistent) (ruleOf m k) S) ks)
       | some c ↦ stays S (some c)
     ]
 
 -- ---- the end
 
--- How a run ends: the attack state is met; a step is blocked by a condition; or the attack state has one that isn't
+-- How a run ends: the attack state is met; a step can't fire for a condition; or the attack state has one that isn't
 -- met.
 pub data Ending : Type 0 where
   attack : Ending
@@ -86,7 +96,7 @@ pub data Ending : Type 0 where
 unfoldable pub asked : Model → ℕ → State → Ending
 unfolding unmet conditions closure goalOf
 asked m g S =
-    elim (unmet (closure (m .clauses) (S .facts)) (conditions (goalOf m g .P) (goalOf m g .N))) [
+    elim (unmet (closure (m .clauses) (S .facts)) (S .names) (conditions (goalOf m g .P) (goalOf m g .N) [])) [
       | none ↦ attack
       | some c ↦ notMet c
     ]

@@ -14,7 +14,7 @@ use Rattle.records.specs.Words.{word, words, odd}
 use Rattle.records.specs.Records.{listCount, cutLists, cut, whole, listsOf, listOf}
 use Rattle.lists.specs.Lists.{Cut, listAt, ListBytes}
 use Rattle.records.specs.declared.Kind.{Kind}
-use Rattle.records.specs.declared.Kind.the-variants.{Clause, Rule, Goal}
+use Rattle.records.specs.declared.Kind.the-variants.{Clause, Rule, Maker, Goal}
 use Rattle.records.proofs.Words.{odd-is}
 
 -- something behind a test that has to hold: the test holds
@@ -106,6 +106,7 @@ module _ (K : Kind) (r : List ℕ) (j : ℕ) (cuts : Cut K r) (h : j < listCount
       go : (K : Kind) → cut K (drop 2 r) ≡ some (cuts .0) → j < listCount K
           → Ahead j (drop 2 r) × (words (listAt j (drop 2 r)) ≡ getD (cuts .0) j [])
       go Clause e h = absurd (not-suc-le-zero h)
+      go Maker e h = cut-ahead _ (drop 2 r) (cuts .0) e j h
       go Rule e h = cut-ahead _ (drop 2 r) (cuts .0) e j h
       go Goal e h = cut-ahead _ (drop 2 r) (cuts .0) e j h
 

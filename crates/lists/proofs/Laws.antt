@@ -1,27 +1,26 @@
--- What judging gives: every record of a section without a fault is fine, its lists fill it, and its facts are below F.
+-- What judging gives: every record of a section without a fault is fine, and its lists fill it.
 use Prim.Native.Nat.{ℕ, zero, suc, _+_, _≤_, _<_, suc-le-suc}
 use mathlib.Core.Path.{_≡_, refl, ap, _∙_, sym}
-use mathlib.Core.Bool.{Bool, true, false, not, _||_, cond, true≢false}
+use mathlib.Core.Bool.{Bool, true, false, _||_, cond, true≢false}
 use mathlib.Core.List.{List, [], _∷_, List·Memᴰ·head, List·Memᴰ·tail, List·Memᴰ·not-nil}
 use mathlib.Core.Option.{Option, none, some, Option·none-ne-some, Option·some-ne-none}
 use native.Mathlib.Nat.{not-suc-le-zero, le-of-suc-le-suc, add-zero, zero-add, suc-add, add-suc, le-refl}
 use native.Mathlib.Omega.{arith}
-use lib.Dec.{leb, ltb, eqb}
+use lib.Dec.{leb, ltb}
 use lib.ListN.{length, drop, getD}
 use lib.Seq.{drop-drop}
-use borrow.Author.Tests.{leb-true, leb-false, le-leb, eq-eqb, eqb-true, not-false}
-use Rattle.sets.specs.Sets.{any, _∈_}
-use Rattle.sets.proofs.Laws.{is-false, fails, by-test, any-intro}
+use borrow.Author.Tests.{leb-true, leb-false, le-leb}
+use Rattle.sets.specs.Sets.{_∈_}
+use Rattle.sets.proofs.Laws.{by-test}
 use Rattle.records.specs.Words.{word, words, odd}
-use Rattle.records.specs.Records.{records, rows, whole, cut, listsOf, listOf}
-use Rattle.records.specs.Records.{most, tooLarge, anyList, judge, firstFrom, firstFault}
+use Rattle.records.specs.Records.{records, whole, cut, listsOf}
+use Rattle.records.specs.Records.{most, judge, firstFrom, firstFault}
 use Rattle.records.specs.Answers.{code}
 use Rattle.lists.specs.Lists.{Cut, AllCut, ListBytes}
 use Rattle.records.specs.declared.Kind.{Kind}
-use Rattle.records.specs.declared.Kind.the-variants.{Clause, Rule, Goal}
-use Rattle.records.specs.declared.Row.{Row}
+use Rattle.records.specs.declared.Kind.the-variants.{Clause}
 use Rattle.records.proofs.Sections.{first-here, first-later}
-use Rattle.records.proofs.Judging.{or-clear, Judged, judged}
+use Rattle.records.proofs.Judging.{Judged, judged}
 
 -- Two answers that meet the contract of `list_of` are equal.
 pub list-unique : {K : Kind} {r : List ℕ} {j : ℕ} {x y : List ℕ} → ListBytes K r j x → ListBytes K r j y → x ≡ y
@@ -46,38 +45,10 @@ clause-lists r (lists, e) = rw (← drop-drop 2 2 r) (go (whole r) (odd body || 
 
 -- ---- entries of a list
 
-module _ {ℓ} {A : Type ℓ} (p : A → Bool) where
-  -- no entry of a list passes a test that none of its entries passes
-  any-clear : {x : A} {xs : List A} → x ∈ xs → any p xs ≡ false → p x ≡ false
-  any-clear {x} {xs} m h = is-false (λ t. fails h (any-intro p xs x m t))
-
 -- an entry stands at some index
 index-of : {r : List ℕ} {rs : List (List ℕ)} → r ∈ rs → (i : ℕ) × (i < length rs) × (getD rs i [] ≡ r)
 index-of (List·Memᴰ·head e) = (0, omega arith, sym e)
 index-of (List·Memᴰ·tail m) = let (i, h, e) = index-of m in (suc i, suc-le-suc h, e)
-
--- ---- rows
-
--- Where no list fails by its row, one with a number in it has a row that it does not fail by.
-row-passed : (test : Row → List ℕ → Bool) (ws : List Row) (lists : List (List ℕ)) → anyList test ws lists ≡ false
-    → (j : ℕ) {f : ℕ} → f ∈ getD lists j [] → (row : Row) × (row ∈ ws) × (test row (getD lists j []) ≡ false)
-unfolding anyList
-row-passed test ws [] e j m = absurd (List·Memᴰ·not-nil m)
-row-passed test [] (l ∷ lists) e j m = absurd (true≢false e)
-row-passed test (row ∷ ws) (l ∷ lists) e zero m = (row, List·Memᴰ·head refl, or-clear _ _ e .0)
-row-passed test (row ∷ ws) (l ∷ lists) e (suc j) m =
-    let (other, member, passed) = row-passed test ws lists (or-clear (test row l) _ e .1) j m in
-    (other, List·Memᴰ·tail member, passed)
-
--- The numbers of every list are facts.
-limit-is : (K : Kind) (F : ℕ) {row : Row} → row ∈ rows K F → row .limit ≡ F
-unfolding any rows
-limit-is K F m = eqb-true _ _ (not-false _ (any-clear (λ (row : Row). not (eqb (row .limit) F)) m (all K)))
-  where
-    all : (K : Kind) → any (λ (row : Row). not (eqb (row .limit) F)) (rows K F) ≡ false
-    all Clause = rw (eq-eqb F F refl)
-    all Rule = rw (eq-eqb F F refl)
-    all Goal = rw (eq-eqb F F refl)
 
 -- ---- a section with no fault
 
@@ -125,18 +96,9 @@ module _ (K : Kind) (F : ℕ) (section : List ℕ) (fine : firstFault (judge K F
 
   module _ (r : List ℕ) (member : r ∈ records section) where
     -- the record was judged under some number, and nothing is wrong with it
-    judged-as : (n : ℕ) × Judged K F n r
+    pub judged-as : (n : ℕ) × Judged K F n r
     unfolding code
     judged-as = let (n, e) = passed-record (judge K F) section fine r member in (n, judged K F n r (sym (ap code e)))
-
-    -- Every fact of each list of a record of a judged section is below F.
-    pub judged-facts : (j f : ℕ) → f ∈ listOf K r j → f < F
-    unfolding listOf
-    judged-facts j f m =
-        let judged = judged-as .1 in
-        let here : f ∈ getD (judged .lists) j [] = rw (judged .fill) at m in
-        let (row, member, passed) = row-passed tooLarge (rows K F) (judged .lists) (judged .known) j here in
-        rw (limit-is K F member) at (leb-false (row .limit) f (any-clear (leb (row .limit)) here passed))
 
   -- The lists of every record of a judged section fill it.
   pub judged-cut : AllCut K section

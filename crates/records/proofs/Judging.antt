@@ -2,7 +2,7 @@
 use Prim.Native.Nat.{ℕ, zero, suc, _+_, _≤_, _<_}
 use mathlib.Core.Path.{_≡_, refl, ap, sym, _∙_}
 use mathlib.Core.Bool.{Bool, true, false, not, _||_, cond, true≢false}
-use mathlib.Core.List.{List, [], _∷_}
+use mathlib.Core.List.{List, [], _∷_, _++_}
 use mathlib.Core.Option.{Option, none, some, Option·none-ne-some}
 use native.Mathlib.Nat.{not-suc-le-zero, le-of-suc-le-suc, suc-add}
 use native.Mathlib.Omega.{arith}
@@ -13,12 +13,12 @@ use borrow.Author.Tests.{eq-eqb, ne-eqb, leb-true, leb-false}
 use Rattle.sets.specs.Sets.{any}
 use Rattle.sets.proofs.Laws.{by-test}
 use Rattle.records.specs.Words.{word, ascending}
-use Rattle.records.specs.Records.{given, _orElse_, recordOf, rows, listCount, cut, listsOf}
-use Rattle.records.specs.Records.{most, overLong, tooLarge, anyList, judge}
+use Rattle.records.specs.Records.{given, _orElse_, recordOf, nameRow, rows, listCount, cut, listsOf}
+use Rattle.records.specs.Records.{most, overLong, wrongFact, wrongName, anyList, judge}
 use Rattle.records.specs.Answers.{code}
 use Rattle.records.specs.Contracts.{pickedOf, before}
 use Rattle.records.specs.declared.Kind.{Kind}
-use Rattle.records.specs.declared.Kind.the-variants.{Clause, Rule, Goal}
+use Rattle.records.specs.declared.Kind.the-variants.{Clause, Rule, Maker, Goal}
 use Rattle.records.specs.declared.Row.{Row}
 use Rattle.records.proofs.Sections.{record-fits, record-rest}
 
@@ -39,13 +39,23 @@ pub counted-row : (K : Kind) (F j : ℕ) → j < listCount K → j < length (row
 unfolding listCount
 counted-row Clause F j h = absurd (not-suc-le-zero h)
 counted-row Rule F j h = h
+counted-row Maker F j h = h
 counted-row Goal F j h = h
 
--- rows that are all alike have the same one at each list
-pub alike : (row : Row) (k j : ℕ) → j < k → drop j (replicate k row) ≡ row ∷ drop (j + 1) (replicate k row)
-alike row zero j h = absurd (not-suc-le-zero h)
-alike row (suc k) zero h = refl
-alike row (suc k) (suc j) h = rw suc-add (alike row k j (le-of-suc-le-suc h))
+-- among rows that are all alike, and others after them, each list has the same one
+pub alike : (row : Row) (others : List Row) (k j : ℕ) → j < k
+    → drop j (replicate k row ++ others) ≡ row ∷ drop (j + 1) (replicate k row ++ others)
+alike row others zero j h = absurd (not-suc-le-zero h)
+alike row others (suc k) zero h = refl
+alike row others (suc k) (suc j) h = rw suc-add (alike row others k j (le-of-suc-le-suc h))
+
+-- a fourth list has names
+pub fourth : (K : Kind) (F j : ℕ) → j < length (rows K F) → 3 ≤ j → drop j (rows K F) ≡ nameRow ∷ drop (j + 1) (rows K F)
+unfolding rows
+fourth Clause F j h l = absurd (omega arith)
+fourth Rule F j h l = absurd (omega arith)
+fourth Maker F j h l = let is : j ≡ 3 = omega arith in rw is
+fourth Goal F j h l = absurd (omega arith)
 
 -- ---- the lists of a record
 
@@ -83,14 +93,16 @@ unfolding code
 refused none k e h = absurd (h e)
 refused (some j) k e h = ap {B = Option ℕ} some (sym e)
 
--- the byte 0 is no number, since the numbers are 5, 6 and 7
-clear : (count fact order : Bool) → 0 ≡ code (given count 5 orElse given fact 6 orElse given order 7)
-    → (count ≡ false) × (fact ≡ false) × (order ≡ false)
+-- the byte 0 is no number, since the numbers are 5, 6, 12 and 7
+clear : (count fact name order : Bool)
+    → 0 ≡ code (given count 5 orElse given fact 6 orElse given name 12 orElse given order 7)
+    → (count ≡ false) × (fact ≡ false) × (name ≡ false) × (order ≡ false)
 unfolding code given _orElse_
-clear true fact order e = absurd (omega arith)
-clear false true order e = absurd (omega arith)
-clear false false true e = absurd (omega arith)
-clear false false false e = (refl, refl, refl)
+clear true fact name order e = absurd (omega arith)
+clear false true name order e = absurd (omega arith)
+clear false false true order e = absurd (omega arith)
+clear false false false true e = absurd (omega arith)
+clear false false false false e = (refl, refl, refl, refl)
 
 -- neither of two tests holds where not one of them does
 pub or-clear : (a b : Bool) → (a || b) ≡ false → (a ≡ false) × (b ≡ false)
@@ -103,7 +115,8 @@ pub record Judged (K : Kind) (F n : ℕ) (r : List ℕ) : Type 0 where
   pub fill : listsOf K r ≡ some lists
   pub counted : leb (most K) n ≡ false
   pub short : anyList overLong (rows K F) lists ≡ false
-  pub known : anyList tooLarge (rows K F) lists ≡ false
+  pub facts : anyList wrongFact (rows K F) lists ≡ false
+  pub names : anyList wrongName (rows K F) lists ≡ false
   pub ordered : any (λ l. not (ascending l)) lists ≡ false
 
 module _ (K : Kind) (F n : ℕ) (r : List ℕ) where
@@ -117,15 +130,16 @@ module _ (K : Kind) (F n : ℕ) (r : List ℕ) where
           let four : _≡_ {A = ℕ} 0 4 = rw (cut, judge) at e in
           absurd (omega arith)
       go (some lists) cut e =
-          let tests = clear _ _ _ (rw (cut, judge) at e) in
+          let tests = clear _ _ _ _ (rw (cut, judge) at e) in
           let count = or-clear _ _ (tests .0) in
           record {
             lists = lists;
             fill = cut;
             counted = count .0;
             short = count .1;
-            known = tests .1;
-            ordered = tests .2;
+            facts = tests .1;
+            names = tests .2;
+            ordered = tests .3;
           }
 
   -- has no number
@@ -133,7 +147,7 @@ module _ (K : Kind) (F n : ℕ) (r : List ℕ) where
   unfolding judge
   passed e =
       let j = judged e in
-      rw (j .fill, judge) (rw (j .counted, j .short, j .known, j .ordered))
+      rw (j .fill, judge) (rw (j .counted, j .short, j .facts, j .names, j .ordered))
 
 -- the record that some bytes start with, if nothing is wrong with it, is as long as its length says
 pub judged-size : (K : Kind) (F n : ℕ) (bytes : List ℕ) → 0 ≡ code (judge K F n (recordOf bytes))

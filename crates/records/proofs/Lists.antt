@@ -13,7 +13,7 @@ use borrow.Author.Tests.{leb-false, le-ltb, le-leb, lt-leb}
 use Rattle.sets.proofs.Laws.{by-test}
 use Rattle.records.specs.Words.{word, words, odd}
 use Rattle.records.specs.Records.{bare, cutLists, cutClause}
-use Rattle.records.specs.Contracts.{Marked, picked, pickedOf}
+use Rattle.records.specs.Contracts.{markedBy, picked, pickedOf}
 use Rattle.records.specs.declared.Marks.{Marks}
 use Rattle.records.specs.declared.Row.{Row}
 use Rattle.records.proofs.Words.{odd-is, length-words}
@@ -65,16 +65,15 @@ clause-tests (a ∷ b ∷ rest) =
 -- no more lists
 pub picked-end : (rows : List Row) (m : Marks) → pickedOf rows m (some []) ≡ picked m
 unfolding pickedOf
-picked-end rows m = rw (or-false (m .count), or-false (m .fact), or-false (m .order))
+picked-end rows m = rw (or-false (m .count), or-false (m .fact), or-false (m .name), or-false (m .order))
 
 -- one more list, whose row is the first
-pub picked-more : {row : Row} {m r : Marks} (rows later : List Row) (bytes : List ℕ) → rows ≡ row ∷ later
-    → Marked bytes row m r → (lists : Option (List (List ℕ)))
-    → pickedOf rows m (Option·map (λ rest. words bytes ∷ rest) lists) ≡ pickedOf later r lists
-unfolding pickedOf
-picked-more rows later bytes first marks none = refl
-picked-more rows later bytes first marks (some lists) =
-    rw (first, marks .count, marks .fact, marks .order) (simp or-assoc)
+pub picked-more : (m : Marks) {row : Row} {r : Marks} (rows later : List Row) (l : List ℕ) → rows ≡ row ∷ later
+    → r ≡ markedBy row l m → (lists : Option (List (List ℕ)))
+    → pickedOf rows m (Option·map (λ rest. l ∷ rest) lists) ≡ pickedOf later r lists
+unfolding pickedOf markedBy
+picked-more m rows later l first is none = refl
+picked-more m rows later l first is (some lists) = rw (first, is) (simp or-assoc)
 
 -- the same from a place of the body on
 module _ (rows : List Row) (m : Marks) (body : List ℕ) (at left : ℕ) where
@@ -97,32 +96,32 @@ module _ (rows : List Row) (m : Marks) (body : List ℕ) (at left : ℕ) where
 
     -- the list fits
     pub number-next : (row : Row) (later : List Row) (r : Marks) → rows ≡ row ∷ later → at + 2 + size ≤ length body
-        → Marked (take (at + 2 + size - (at + 2)) (drop (at + 2) body)) row m r
+        → r ≡ markedBy row (words (take (at + 2 + size - (at + 2)) (drop (at + 2) body))) m
         → pickedOf rows m (cutLists left (drop at body)) ≡ pickedOf later r (cutLists k (drop (at + 2 + size) body))
     number-next row later r first h marks =
         let bytes = drop at body in
         let list = take (2 * word bytes) (drop 2 bytes) in
         let length-is : at + 2 + size - (at + 2) ≡ 2 * word bytes = omega arith in
         let end-is : at + (2 + 2 * word bytes) ≡ at + 2 + size = omega arith in
-        let mine : Marked list row m r = rw (length-is, ← drop-drop 2 at body) at marks in
+        let mine : r ≡ markedBy row (words list) m = rw (length-is, ← drop-drop 2 at body) at marks in
         rw (more, cut-next k bytes (rw length-drop (omega arith)))
-        (picked-more rows later list first mine (cutLists k (drop (2 + 2 * word bytes) bytes))
+        (picked-more m rows later (words list) first mine (cutLists k (drop (2 + 2 * word bytes) bytes))
         ∙ rw (drop-drop (2 + 2 * word bytes) at body, end-is))
 
 -- ---- bare numbers
 
 -- an odd byte is left over
-pub bare-odd : (F : ℕ) (bytes : List ℕ) → eqb (length bytes % 2) 1 ≡ true → bare F bytes ≡ some 4
+pub bare-odd : (row : Row) (bytes : List ℕ) → eqb (length bytes % 2) 1 ≡ true → bare row bytes ≡ some 4
 unfolding bare
-bare-odd F bytes e = rw (odd-is, e)
+bare-odd row bytes e = rw (odd-is, e)
 
 -- otherwise the marks of one list tell, which is as long as its bytes allow
-pub bare-even : (F : ℕ) (bytes : List ℕ) (r : Marks) → eqb (length bytes % 2) 1 ≡ false
-    → let row : Row = record { longest = length bytes; limit = F } in
-    let none : Marks = record { count = false; fact = false; order = false } in
-    Marked bytes row none r
-    → bare F bytes ≡ picked r
-unfolding bare picked
-bare-even F bytes r e m =
+pub bare-even : (row : Row) (bytes : List ℕ) (r : Marks) → eqb (length bytes % 2) 1 ≡ false
+    → let long : Row = record { longest = length bytes; limit = row .limit; names = row .names } in
+    let none : Marks = record { count = false; fact = false; name = false; order = false } in
+    r ≡ markedBy long (words bytes) none
+    → bare row bytes ≡ picked r
+unfolding bare picked markedBy
+bare-even row bytes r e is =
     let within : length (words bytes) ≤ length bytes = omega (arith, length-words bytes) in
-    rw (odd-is, e, m .count, m .fact, m .order, le-ltb (length bytes) (length (words bytes)) within)
+    rw (odd-is, e, is, le-ltb (length bytes) (length (words bytes)) within)

@@ -1,7 +1,7 @@
 -- Records, the lists in them, and the first fault of a section of records (document 01, "File layouts", "Bounds" and
 -- "the order").
 use Prim.Native.Nat.{ℕ, zero, suc, _+_, _*_}
-use mathlib.Core.Bool.{Bool, true, false, not, _||_, cond}
+use mathlib.Core.Bool.{Bool, true, false, not, _&&_, _||_, cond}
 use mathlib.Core.List.{List, [], _∷_}
 use mathlib.Core.Option.{Option, none, some, Option·map, Option·getD, orElse as firstOf}
 use lib.Dec.{leb, ltb, eqb}
@@ -10,7 +10,7 @@ use Rattle.sets.specs.Sets.{any}
 use Rattle.records.specs.Words.{word, words, odd, ascending}
 use Rattle.records.specs.declared.Fault.{Fault}
 use Rattle.records.specs.declared.Kind.{Kind}
-use Rattle.records.specs.declared.Kind.the-variants.{Clause, Rule, Goal}
+use Rattle.records.specs.declared.Kind.the-variants.{Clause, Rule, Maker, Goal}
 use Rattle.records.specs.declared.Row.{Row}
 
 infixr 25 _orElse_
@@ -61,21 +61,28 @@ placeOf (suc n) (r ∷ rs) = length r + placeOf n rs
 -- ---- the lists of a record
 
 -- at most so many facts, each below F
-abbrev facts : ℕ → ℕ → Row
-facts longest F = record { longest = longest; limit = F }
+abbrev pub factRow : ℕ → ℕ → Row
+factRow longest F = record { longest = longest; limit = F; names = false }
+
+-- at most 32 names: "Names are 0 to 1,023." (document 02, wish 9)
+abbrev pub nameRow : Row
+nameRow = record { longest = 32; limit = 1024; names = true }
 
 -- "A clause is its head and then the body facts .. A rule is three lists P, N, A; an attack state two, P and N.": a row
--- for each list of a record, in order; the head is a list by itself. "body facts 16 .. each list 32"
+-- for each list of a record, in order; the head is a list by itself. "body facts 16 .. each list 32". In version 3 "a
+-- fourth list in each rule, the names it makes" (document 02, wish 9): such a rule is a maker
 unfoldable pub rows : Kind → ℕ → List Row
-rows Clause F = facts 1 F ∷ facts 16 F ∷ []
-rows Rule F = facts 32 F ∷ facts 32 F ∷ facts 32 F ∷ []
-rows Goal F = facts 32 F ∷ facts 32 F ∷ []
+rows Clause F = factRow 1 F ∷ factRow 16 F ∷ []
+rows Rule F = factRow 32 F ∷ factRow 32 F ∷ factRow 32 F ∷ []
+rows Maker F = factRow 32 F ∷ factRow 32 F ∷ factRow 32 F ∷ nameRow ∷ []
+rows Goal F = factRow 32 F ∷ factRow 32 F ∷ []
 
 -- how many lists with a count a record of the kind has: a clause's have none
 unfoldable pub listCount : Kind → ℕ
 unfolding rows
 listCount Clause = 0
 listCount Rule = length (rows Rule 0)
+listCount Maker = length (rows Maker 0)
 listCount Goal = length (rows Goal 0)
 
 -- "A list is a 2-byte count and that many facts. Lists fill the record exactly.": the k lists that these bytes are, if
@@ -101,6 +108,7 @@ unfoldable pub cut : Kind → List ℕ → Option (List (List ℕ))
 unfolding cutClause cutLists listCount
 cut Clause = cutClause
 cut Rule = cutLists (listCount Rule)
+cut Maker = cutLists (listCount Maker)
 cut Goal = cutLists (listCount Goal)
 
 -- the lists of a record, if its length fits and they fill it
@@ -119,15 +127,19 @@ listOf K r j = getD (Option·getD (listsOf K r) []) j []
 unfoldable pub most : Kind → ℕ
 most Clause = 4096
 most Rule = 2048
+most Maker = 2048
 most Goal = 64
 
 -- a list longer than its row allows
 abbrev pub overLong : Row → List ℕ → Bool
 overLong row l = ltb (row .longest) (length l)
 
--- a list with a number that its row doesn't allow
-abbrev pub tooLarge : Row → List ℕ → Bool
-tooLarge row l = any (leb (row .limit)) l
+-- a list with a number that its row doesn't allow: a fact, or a name
+abbrev pub wrongFact : Row → List ℕ → Bool
+wrongFact row l = not (row .names) && any (leb (row .limit)) l
+
+abbrev pub wrongName : Row → List ℕ → Bool
+wrongName row l = row .names && any (leb (row .limit)) l
 
 -- some list fails by its row's test; one without a row fails by any
 unfoldable pub anyList : (Row → List ℕ → Bool) → List Row → List (List ℕ) → Bool
@@ -136,7 +148,8 @@ anyList fails [] (l ∷ lists) = true
 anyList fails (row ∷ others) (l ∷ lists) = fails row l || anyList fails others lists
 
 -- "Within a record 4 comes before 5, 5 before 6, 6 before 7; a record beyond the section's bound is judged for 4 and
--- then is 5.": record n of its section, in a model of F facts
+-- then is 5."; "a name over 1,023 is 12 BADNAME, right after FACT within a record" (document 02, wish 9): record n of
+-- its section, in a model of F facts
 unfoldable pub judge : Kind → ℕ → ℕ → List ℕ → Option ℕ
 unfolding listsOf given _orElse_ most rows anyList any ascending
 judge K F n r =
@@ -144,17 +157,19 @@ judge K F n r =
       | none ↦ some 4
       | some lists ↦
           given (leb (most K) n || anyList overLong (rows K F) lists) 5
-          orElse given (anyList tooLarge (rows K F) lists) 6
+          orElse given (anyList wrongFact (rows K F) lists) 6
+          orElse given (anyList wrongName (rows K F) lists) 12
           orElse given (any (λ l. not (ascending l)) lists) 7
     ]
 
 -- "The initial facts, each clause body and each list are strictly ascending.": bare numbers, which fill the bytes and
--- are below F
-unfoldable pub bare : ℕ → List ℕ → Option ℕ
+-- are what the row allows, however many
+unfoldable pub bare : Row → List ℕ → Option ℕ
 unfolding given _orElse_ odd any words ascending
-bare F bytes =
+bare row bytes =
     given (odd bytes) 4
-    orElse given (any (leb F) (words bytes)) 6
+    orElse given (wrongFact row (words bytes)) 6
+    orElse given (wrongName row (words bytes)) 12
     orElse given (not (ascending (words bytes))) 7
 
 -- the first record, in file order, that a judge refuses: record n stands at place `at`

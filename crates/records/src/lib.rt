@@ -7,14 +7,15 @@ ghost use lib.ListN.{length, take, drop};
 ghost use Rattle.sets.specs.Sets.{any};
 ghost use Rattle.records.specs.Words.{word, words};
 ghost use Rattle.records.specs.Records.{recordOf, records, placeOf, rows, listCount, cutLists, cutClause};
-ghost use Rattle.records.specs.Records.{bare, judge, firstFault};
+ghost use Rattle.records.specs.Records.{bare, judge, firstFault, factRow};
 ghost use Rattle.records.specs.Answers.{code, found};
-ghost use Rattle.records.specs.Contracts.{Marked, picked, pickedOf, before};
+ghost use Rattle.records.specs.Contracts.{marked, markedBy, picked, pickedOf, before};
 
-// The three kinds of records.
+// The kinds of records. A maker is a rule with a fourth list, the names it makes.
 pub enum Kind {
     Clause,
     Rule,
+    Maker,
     Goal,
 }
 
@@ -31,16 +32,18 @@ pub enum Found {
     Fault(Fault),
 }
 
-// What a list of a record is allowed: so many numbers, each below the limit.
+// What a list is allowed: so many numbers, each below the limit; they are names or facts.
 pub struct Row {
     pub longest: usize,
     pub limit: usize,
+    pub names: bool,
 }
 
 // Which faults a record's lists have shown so far.
 struct Marks {
     count: bool,
     fact: bool,
+    name: bool,
     order: bool,
 }
 
@@ -86,6 +89,7 @@ fn list_count(kind: Kind) -> usize
     match kind {
         Kind::Clause => 0,
         Kind::Rule => 3,
+        Kind::Maker => 4,
         Kind::Goal => 2,
     }
 }
@@ -95,14 +99,23 @@ fn row_of(kind: Kind, j: usize, facts: usize) -> Row
     requires { ⌜ j < length (rows kind facts) ⌝ }
     ensures { λ r. ⌜ drop j (rows kind facts) ≡ r ∷ drop (j + 1) (rows kind facts) ⌝ }
 {
+    if 3 <= j {
+        return Row {
+            longest: 32,
+            limit: 1024,
+            names: true,
+        };
+    }
     let longest = match kind {
         Kind::Clause => if j == 0 { 1 } else { 16 },
         Kind::Rule => 32,
+        Kind::Maker => 32,
         Kind::Goal => 32,
     };
     Row {
         longest,
         limit: facts,
+        names: false,
     }
 }
 
@@ -120,38 +133,38 @@ fn reaches(list: &[u8], limit: usize) -> bool
     false
 }
 
-// The marks with those of one more list. While the numbers ascend the last is the largest, so that it alone is held to
+// The marks with those of one more list, of names or of facts.
+fn mark(marks: Marks, names: bool, long: bool, large: bool, broken: bool) -> Marks
+    ensures { λ r. ⌜ r ≡ marked names marks long large broken ⌝ }
+{
+    Marks {
+        count: marks.count | long,
+        fact: marks.fact | (!names & large),
+        name: marks.name | (names & large),
+        order: marks.order | broken,
+    }
+}
+
+// The marks with those of the list that these bytes are. While the numbers ascend the last is the largest, so that it alone is held to
 // the limit: with both tests for each number the lists of rules take three quarters longer.
 fn mark_list(list: &[u8], row: Row, marks: Marks) -> Marks
-    ensures { λ r. ⌜ Marked (now (list .entry)) row marks r ⌝ }
+    ensures { λ r. ⌜ r ≡ markedBy row (words (now (list .entry))) marks ⌝ }
 {
-    let count = marks.count | (row.longest < list.len() / 2);
+    let long = row.longest < list.len() / 2;
     if list.len() < 2 {
-        return Marks {
-            count,
-            fact: marks.fact,
-            order: marks.order,
-        };
+        return mark(marks, row.names, long, false, false);
     }
     let mut last = word_at(list, 0);
     let mut at = 2;
     while 2 <= list.len() - at {
         let f = word_at(list, at);
         if f <= last {
-            return Marks {
-                count,
-                fact: marks.fact | reaches(list, row.limit),
-                order: true,
-            };
+            return mark(marks, row.names, long, reaches(list, row.limit), true);
         }
         last = f;
         at += 2;
     }
-    Marks {
-        count,
-        fact: marks.fact | (row.limit <= last),
-        order: marks.order,
-    }
+    mark(marks, row.names, long, row.limit <= last, false)
 }
 
 // Document 01's number for the marks, the first that applies; 0 for none.
@@ -159,11 +172,13 @@ fn pick(marks: Marks) -> u8
     ensures { λ r. ⌜ r ≡ code (picked marks) ⌝ }
 {
     // Nearly every record is fine, which is then seen by one test.
-    if marks.count | marks.fact | marks.order {
+    if marks.count | marks.fact | marks.name | marks.order {
         if marks.count {
             5
         } else if marks.fact {
             6
+        } else if marks.name {
+            12
         } else {
             7
         }
@@ -172,9 +187,9 @@ fn pick(marks: Marks) -> u8
     }
 }
 
-// The number for a section of bare numbers: 4, 6 or 7, or 0.
-pub fn numbers_number(bytes: &[u8], facts: usize) -> u8
-    ensures { λ r. ⌜ r ≡ code (bare facts (now (bytes .entry))) ⌝ }
+// The number for a section of bare numbers, of which the row tells what they may be: 4, 6, 12 or 7, or 0.
+pub fn numbers_number(bytes: &[u8], row: Row) -> u8
+    ensures { λ r. ⌜ r ≡ code (bare row (now (bytes .entry))) ⌝ }
 {
     if bytes.len() % 2 == 1 {
         return 4;
@@ -182,17 +197,19 @@ pub fn numbers_number(bytes: &[u8], facts: usize) -> u8
     // The numbers have no bound of their own, so they may fill the bytes.
     let row = Row {
         longest: bytes.len(),
-        limit: facts,
+        limit: row.limit,
+        names: row.names,
     };
     let clear = Marks {
         count: false,
         fact: false,
+        name: false,
         order: false,
     };
     pick(mark_list(bytes, row, clear))
 }
 
-// The number for a rule's or an attack state's lists, after some marks.
+// The number for the lists of a rule, a maker or an attack state, after some marks.
 fn lists_number(body: &[u8], kind: Kind, facts: usize, marks: Marks) -> u8
     ensures { λ r. ⌜ r ≡ code (pickedOf (rows kind facts) marks (cutLists (listCount kind) (now (body .entry)))) ⌝ }
 {
@@ -222,14 +239,9 @@ fn lists_number(body: &[u8], kind: Kind, facts: usize, marks: Marks) -> u8
 // The marks with that of a clause's head, which is a list of one number. The caller has seen that it is there.
 fn mark_head(body: &[u8], facts: usize, marks: Marks) -> Marks
     requires { ⌜ 2 ≤ length (now body) ⌝ }
-    ensures { λ r. ⌜ Marked (take 2 (now (body .entry))) (record { longest = 1; limit = facts }) marks r ⌝ }
+    ensures { λ r. ⌜ r ≡ markedBy (factRow 1 facts) (words (take 2 (now (body .entry)))) marks ⌝ }
 {
-    let head = word_at(body, 0);
-    Marks {
-        count: marks.count,
-        fact: marks.fact | (facts <= head),
-        order: marks.order,
-    }
+    mark(marks, false, false, facts <= word_at(body, 0), false)
 }
 
 // The number for a clause's head and body, after some marks.
@@ -245,7 +257,8 @@ fn clause_number(body: &[u8], facts: usize, marks: Marks) -> u8
     pick(marks)
 }
 
-// The number for record n of its section, which these bytes start with: 4 to 7, or 0 where nothing is wrong with it.
+// The number for record n of its section, which these bytes start with: 4 to 7 or 12, or 0 where nothing is wrong with
+// it.
 fn record_number(rest: &[u8], kind: Kind, n: usize, facts: usize) -> u8
     ensures { λ r. ⌜ r ≡ code (judge kind facts n (recordOf (now (rest .entry)))) ⌝ }
 {
@@ -261,6 +274,7 @@ fn record_number(rest: &[u8], kind: Kind, n: usize, facts: usize) -> u8
     match kind {
         Kind::Clause => clause_number(body, facts, marks),
         Kind::Rule => lists_number(body, kind, facts, marks),
+        Kind::Maker => lists_number(body, kind, facts, marks),
         Kind::Goal => lists_number(body, kind, facts, marks),
     }
 }
@@ -272,11 +286,13 @@ fn beyond(kind: Kind, n: usize) -> Marks
     let most = match kind {
         Kind::Clause => 4096,
         Kind::Rule => 2048,
+        Kind::Maker => 2048,
         Kind::Goal => 64,
     };
     Marks {
         count: most <= n,
         fact: false,
+        name: false,
         order: false,
     }
 }

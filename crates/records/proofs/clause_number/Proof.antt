@@ -60,9 +60,9 @@ returns-2 c =
     (c .pick .ensures
     ∙ ap code
     (sym
-    (picked-more _ _ (take 2 body) refl (marked .before .before .before .mark-head .ensures)
+    (picked-more _ _ _ (words (take 2 body)) refl (marked .before .before .before .mark-head .ensures)
     (some (words (drop 2 body) ∷ []))
-    ∙ picked-more _ _ (drop 2 body) second (rw rest-of at (marked .mark-list .ensures)) (some [])
+    ∙ picked-more _ _ _ (words (drop 2 body)) second (rw rest-of at (marked .mark-list .ensures)) (some [])
     ∙ picked-end _ _)))
 
 pub clause-number-spec : {M : Type 1} → statement M

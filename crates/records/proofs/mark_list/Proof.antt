@@ -12,6 +12,7 @@ use borrow.Author.Tests.{lt-ltb, le-ltb}
 use denote.Ref.{now}
 use Rattle.sets.specs.Sets.{any}
 use Rattle.records.specs.Words.{words, ascending}
+use Rattle.records.specs.Contracts.{markedBy}
 use Rattle.records.proofs.Words.{words-two, words-at, words-none, length-words}
 use Rattle.records.proofs.Lists.{largest-last}
 use Rattle.records.proofs.mark_list.Statement.{statement}
@@ -27,22 +28,27 @@ abbrev μ-loop : tie.MeasureT-loop
 μ-loop list row marks count last₀ at₀ last at = length list - at
 
 -- no number
+mark-requires : tie.Need-mark-requires Inv-loop μ-loop
+mark-requires c κs = search needs
+
+mark-requires-2 : tie.Need-mark-requires-2 Inv-loop μ-loop
+mark-requires-2 c κs = search needs
+
+mark-requires-3 : tie.Need-mark-requires-3 Inv-loop μ-loop
+mark-requires-3 c κs = search needs
+
 returns : tie.Need-returns Inv-loop μ-loop
-unfolding any ascending
+unfolding any ascending markedBy
 returns c =
-    let none = words-none (now (c .before .before .before .before .args .list)) (c .if1 .taken) in
-    record {
-      count = rw length-words refl;
-      fact = rw none (sym (or-false _));
-      order = rw none (sym (or-false _));
-    }
+    let none = words-none (now (c .before .before .before .before .args .list)) (c .before .if1 .taken) in
+    c .mark .ensures ∙ rw (← length-words, none)
 
 word-at-requires : tie.Need-word-at-requires Inv-loop μ-loop
 word-at-requires c κs = omega arith
 
 loop-holds : tie.Need-loop-holds Inv-loop μ-loop
 loop-holds c =
-    let list = now (c .before .before .before .before .before .args .list) in
+    let list = now (c .before .before .before .before .args .list) in
     let two = c .before .if1 .left in
     let first : words list ≡ c .word-at .result ∷ words (drop 2 list) = rw (c .word-at .ensures) (words-two list two) in
     (two, rw first, rw first)
@@ -59,7 +65,7 @@ reaches-requires c κs = search needs
 -- In a turn: the number at hand, and those from two bytes further on.
 module _ (c : tie.After-word-at2 Inv-loop μ-loop) where
   abbrev list : List ℕ
-  list = now (c .before .before .before .before .before .before .before .before .args .list)
+  list = now (c .before .before .before .before .before .before .before .args .list)
 
   abbrev at : ℕ
   at = c .before .before .loop .at
@@ -73,14 +79,8 @@ unfolding ascending
 broken c = c .before .before .before .loop .inv .2 ∙ rw (next (c .before), le-ltb _ _ (c .if2 .taken))
 
 returns-2 : tie.Need-returns-2 Inv-loop μ-loop
-returns-2 c =
-    let out = c .before .before in
-    let start = out .before .before .before .before .before .before .before .before .before in
-    record {
-      count = rw length-words refl;
-      fact = rw (c .before .reaches .ensures) refl;
-      order = rw (broken out) (sym (or-true (start .args .marks .order)));
-    }
+unfolding markedBy
+returns-2 c = c .mark2 .ensures ∙ rw (← length-words, c .before .reaches .ensures, broken (c .before .before))
 
 add-at : tie.Need-add-at Inv-loop μ-loop
 add-at c = omega arith
@@ -99,17 +99,13 @@ loop-again c =
 
 -- no number is left: all ascend, and the last is the largest
 returns-3 : tie.Need-returns-3 Inv-loop μ-loop
-unfolding any ascending
+unfolding any ascending markedBy
 returns-3 c =
     let here = c .before .before .before in
     let loop = here .loop in
-    let list = now (here .before .before .before .before .before .before .args .list) in
+    let list = now (here .before .before .before .before .before .args .list) in
     let none : words (drop (loop .at) list) ≡ [] = words-none _ (rw length-drop (omega arith)) in
-    record {
-      count = rw length-words refl;
-      fact = rw (loop .inv .1, none, or-false (leb _ (loop .last))) refl;
-      order = rw (loop .inv .2, none) (sym (or-false _));
-    }
+    c .mark3 .ensures ∙ rw (← length-words, loop .inv .1, loop .inv .2, none, or-false (leb _ (loop .last)))
 
 pub mark-list-spec : {M : Type 1} → statement M
 mark-list-spec =
@@ -117,14 +113,17 @@ mark-list-spec =
     (tie.spec
     Inv-loop
     μ-loop
+    mark-requires
     returns
     word-at-requires
     loop-holds
     sub-loop
     word-at-requires-2
     reaches-requires
+    mark-requires-2
     returns-2
     add-at
     loop-less
     loop-again
+    mark-requires-3
     returns-3)

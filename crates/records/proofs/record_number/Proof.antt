@@ -72,6 +72,12 @@ enum-told-3 c = search needs
 lists-number-requires-2 : tie.Need-lists-number-requires-2
 lists-number-requires-2 c κs = search needs
 
+enum-told-4 : tie.Need-enum-told-4
+enum-told-4 c = search needs
+
+lists-number-requires-3 : tie.Need-lists-number-requires-3
+lists-number-requires-3 c κs = search needs
+
 -- one whose length does fit, of a kind whose bytes are known to be cut so
 fitted : (c : tie.After-beyond) (K : Kind) (into : List ℕ → Option (List (List ℕ)))
     → let args = c .before .before .before .before .before .before .args in
@@ -87,6 +93,19 @@ fitted c K into kind cuts =
     let size : got .word-at .result + 2 - 2 ≡ word rest = omega (arith, got .word-at .ensures) in
     rw (size, c .beyond .ensures, kind, judge-is, first-cut K rest (omega arith), cuts)
 
+-- the same of a kind whose lists have counts
+counted : (c : tie.After-beyond)
+    → let args = c .before .before .before .before .before .before .args in
+    let size = c .before .before .before .word-at .result in
+    let body = take (size + 2 - 2) (drop 2 (now (args .rest))) in
+    let into = cutLists (listCount (args .kind)) in
+    cut (args .kind) ≡ into
+    → code (pickedOf (rows (args .kind) (args .facts)) (c .beyond .result) (into body))
+    ≡ code (judge (args .kind) (args .facts) (args .n) (recordOf (now (args .rest))))
+counted c =
+    let kind = c .before .before .before .before .before .before .args .kind in
+    fitted c kind (cutLists (listCount kind)) refl
+
 returns-3 : tie.Need-returns-3
 unfolding cut
 returns-3 c =
@@ -95,17 +114,15 @@ returns-3 c =
 
 returns-4 : tie.Need-returns-4
 unfolding cut
-returns-4 c =
-    let kind = c .before .before .before .before .before .before .before .before .before .args .kind in
-    c .lists-number .ensures
-    ∙ fitted (c .before .before .before) kind (cutLists (listCount kind)) refl (rw (c .before .enum-told2 .given .1))
+returns-4 c = c .lists-number .ensures ∙ counted (c .before .before .before) (rw (c .before .enum-told2 .given .1))
 
 returns-5 : tie.Need-returns-5
 unfolding cut
-returns-5 c =
-    let kind = c .before .before .before .before .before .before .before .before .before .args .kind in
-    c .lists-number2 .ensures
-    ∙ fitted (c .before .before .before) kind (cutLists (listCount kind)) refl (rw (c .before .enum-told3 .given .1))
+returns-5 c = c .lists-number2 .ensures ∙ counted (c .before .before .before) (rw (c .before .enum-told3 .given .1))
+
+returns-6 : tie.Need-returns-6
+unfolding cut
+returns-6 c = c .lists-number3 .ensures ∙ counted (c .before .before .before) (rw (c .before .enum-told4 .given .1))
 
 pub record-number-spec : {M : Type 1} → statement M
 record-number-spec =
@@ -126,6 +143,9 @@ record-number-spec =
     lists-number-requires
     enum-told-3
     lists-number-requires-2
+    enum-told-4
+    lists-number-requires-3
     returns-3
     returns-4
-    returns-5)
+    returns-5
+    returns-6)

@@ -111,17 +111,18 @@ module _ (rows : List Row) (m : Marks) (body : List ℕ) (at left : ℕ) where
 -- ---- bare numbers
 
 -- an odd byte is left over
-pub bare-odd : (row : Row) (bytes : List ℕ) → eqb (length bytes % 2) 1 ≡ true → bare row bytes ≡ some 4
+pub bare-odd : (names : Bool) (limit : ℕ) (bytes : List ℕ) → eqb (length bytes % 2) 1 ≡ true
+    → bare names limit bytes ≡ some 4
 unfolding bare
-bare-odd row bytes e = rw (odd-is, e)
+bare-odd names limit bytes e = rw (odd-is, e)
 
 -- otherwise the marks of one list tell, which is as long as its bytes allow
-pub bare-even : (row : Row) (bytes : List ℕ) (r : Marks) → eqb (length bytes % 2) 1 ≡ false
-    → let long : Row = record { longest = length bytes; limit = row .limit; names = row .names } in
+pub bare-even : (names : Bool) (limit : ℕ) (bytes : List ℕ) (r : Marks) → eqb (length bytes % 2) 1 ≡ false
+    → let row : Row = record { longest = length bytes; limit = limit; names = names } in
     let none : Marks = record { count = false; fact = false; name = false; order = false } in
-    r ≡ markedBy long (words bytes) none
-    → bare row bytes ≡ picked r
+    r ≡ markedBy row (words bytes) none
+    → bare names limit bytes ≡ picked r
 unfolding bare picked markedBy
-bare-even row bytes r e is =
+bare-even names limit bytes r e is =
     let within : length (words bytes) ≤ length bytes = omega (arith, length-words bytes) in
     rw (odd-is, e, is, le-ltb (length bytes) (length (words bytes)) within)

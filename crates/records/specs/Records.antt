@@ -162,14 +162,14 @@ judge K F n r =
           orElse given (any (λ l. not (ascending l)) lists) 7
     ]
 
--- "The initial facts, each clause body and each list are strictly ascending.": bare numbers, which fill the bytes and
--- are what the row allows, however many
-unfoldable pub bare : Row → List ℕ → Option ℕ
+-- "The initial facts, each clause body and each list are strictly ascending.": bare numbers, names or facts, which fill
+-- the bytes and are below a limit, however many
+unfoldable pub bare : Bool → ℕ → List ℕ → Option ℕ
 unfolding given _orElse_ odd any words ascending
-bare row bytes =
+bare names limit bytes =
     given (odd bytes) 4
-    orElse given (wrongFact row (words bytes)) 6
-    orElse given (wrongName row (words bytes)) 12
+    orElse given (not names && any (leb limit) (words bytes)) 6
+    orElse given (names && any (leb limit) (words bytes)) 12
     orElse given (not (ascending (words bytes))) 7
 
 -- the first record, in file order, that a judge refuses: record n stands at place `at`

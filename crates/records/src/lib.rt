@@ -187,9 +187,9 @@ fn pick(marks: Marks) -> u8
     }
 }
 
-// The number for a section of bare numbers, of which the row tells what they may be: 4, 6, 12 or 7, or 0.
-pub fn numbers_number(bytes: &[u8], row: Row) -> u8
-    ensures { λ r. ⌜ r ≡ code (bare row (now (bytes .entry))) ⌝ }
+// The number for a section of bare numbers, names or facts, below a limit: 4, 6, 12 or 7, or 0.
+pub fn numbers_number(bytes: &[u8], names: bool, limit: usize) -> u8
+    ensures { λ r. ⌜ r ≡ code (bare names limit (now (bytes .entry))) ⌝ }
 {
     if bytes.len() % 2 == 1 {
         return 4;
@@ -197,8 +197,8 @@ pub fn numbers_number(bytes: &[u8], row: Row) -> u8
     // The numbers have no bound of their own, so they may fill the bytes.
     let row = Row {
         longest: bytes.len(),
-        limit: row.limit,
-        names: row.names,
+        limit,
+        names,
     };
     let clear = Marks {
         count: false,

@@ -2,7 +2,7 @@
 -- them.
 use Prim.Native.Nat.{ℕ, suc, _+_, _-_, _*_, _≤_, _<_}
 use mathlib.Core.Path.{_≡_, refl, ap, _∙_, sym}
-use mathlib.Core.Bool.{Bool, true, false, not, cond}
+use mathlib.Core.Bool.{Bool, true, false, not, _&&_, cond}
 use mathlib.Core.List.{List, [], _∷_}
 use mathlib.Core.Option.{Option, none, some, Option·map, Option·some-ne-none, Option·none-ne-some}
 use native.Mathlib.Omega.{arith}
@@ -18,9 +18,10 @@ use Rattle.records.specs.declared.Kind.the-variants as kind
 use Rattle.records.specs.Answers.{code}
 use Rattle.records.proofs.Sections.{first-here, first-later}
 use Rattle.records.proofs.Places.{records-sum}
-use Rattle.sections.specs.Sections.{long, endAt, fits, payload, restFault, moved, inSection, allOf, sizes, reader}
+use Rattle.sections.specs.Sections.{long, endAt, fits, payload, restFault, moved, inSection, allOf, sizes}
+use Rattle.sections.specs.Sections.{ruleKind, reader}
 use Rattle.sections.specs.declared.Role.{Role}
-use Rattle.sections.specs.declared.Role.the-variants.{Sizes, Initial, Persistent, Clauses, Rules, Goals}
+use Rattle.sections.specs.declared.Role.the-variants.{Sizes, Initial, Persistent, Names, Clauses, Rules, Goals}
 use Rattle.sections.specs.Answers.{passed}
 use Rattle.sections.specs.declared.Passed.{Passed}
 use Rattle.sections.proofs.Fits.{fits-within, payload-part}
@@ -60,12 +61,14 @@ sizes-counted bytes =
     (given-counted (ltb 4096 (word bytes)) 5 (lit< tt))
 
 -- and those for bare numbers.
-pub bare-counted : (F : ℕ) (bytes : List ℕ) → Counted (bare F bytes)
+pub bare-counted : (names : Bool) (limit : ℕ) (bytes : List ℕ) → Counted (bare names limit bytes)
 unfolding bare
-bare-counted F bytes =
+bare-counted names limit bytes =
+    let large = any (leb limit) (words bytes) in
     either-counted _ _ (given-counted (odd bytes) 4 (lit< tt))
-    (either-counted _ _ (given-counted (any (leb F) (words bytes)) 6 (lit< tt))
-    (given-counted (not (ascending (words bytes))) 7 (lit< tt)))
+    (either-counted _ _ (given-counted (not names && large) 6 (lit< tt))
+    (either-counted _ _ (given-counted (names && large) 12 (lit< tt))
+    (given-counted (not (ascending (words bytes))) 7 (lit< tt))))
 
 -- Such a number as a byte gives the fault for all of the bytes.
 pub whole-fault : (number : Option ℕ) (bytes : List ℕ) {byte : ℕ} → Counted number → byte ≡ code number
@@ -112,15 +115,16 @@ all-within (some k) bytes f e =
     omega arith
 
 -- What the reader of a section finds lies within its bytes.
-pub reader-within : (role : Role) (F : ℕ) (bytes : List ℕ) (f : Fault) → reader role F bytes ≡ some f
-    → f .start + f .size ≤ length bytes
+pub reader-within : (version : ℕ) (role : Role) (F : ℕ) (bytes : List ℕ) (f : Fault)
+    → reader version role F bytes ≡ some f → f .start + f .size ≤ length bytes
 unfolding reader
-reader-within Sizes F bytes f e = all-within (sizes bytes) bytes f e
-reader-within Initial F bytes f e = all-within (bare F bytes) bytes f e
-reader-within Persistent F bytes f e = all-within (bare F bytes) bytes f e
-reader-within Clauses F bytes f e = fault-within (judge kind.Clause F) bytes f e
-reader-within Rules F bytes f e = fault-within (judge kind.Rule F) bytes f e
-reader-within Goals F bytes f e = fault-within (judge kind.Goal F) bytes f e
+reader-within version Sizes F bytes f e = all-within (sizes bytes) bytes f e
+reader-within version Initial F bytes f e = all-within (bare false F bytes) bytes f e
+reader-within version Persistent F bytes f e = all-within (bare false F bytes) bytes f e
+reader-within version Names F bytes f e = all-within (bare true 1024 bytes) bytes f e
+reader-within version Clauses F bytes f e = fault-within (judge kind.Clause F) bytes f e
+reader-within version Rules F bytes f e = fault-within (judge (ruleKind version) F) bytes f e
+reader-within version Goals F bytes f e = fault-within (judge kind.Goal F) bytes f e
 
 -- ---- where a section ends
 

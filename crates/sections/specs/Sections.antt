@@ -1,7 +1,7 @@
 -- Sections of a file: where each stands, what it holds, and its first fault; a file's size and version (document 01,
 -- "File layouts", "Bounds" and "the bytes at fault").
 use Prim.Native.Nat.{ℕ, zero, suc, _+_, _-_, _*_}
-use mathlib.Core.Bool.{Bool, not, _||_, cond}
+use mathlib.Core.Bool.{Bool, true, false, not, _||_, cond}
 use mathlib.Core.List.{List}
 use mathlib.Core.Option.{Option, none, some, Option·map}
 use lib.Dec.{leb, ltb, eqb}
@@ -9,9 +9,10 @@ use lib.ListN.{length, take, drop, getD}
 use Rattle.records.specs.Words.{word}
 use Rattle.records.specs.Records.{given, _orElse_, records, bare, judge, firstFault}
 use Rattle.records.specs.declared.Fault.{Fault}
+use Rattle.records.specs.declared.Kind.{Kind}
 use Rattle.records.specs.declared.Kind.the-variants as kind
 use Rattle.sections.specs.declared.Role.{Role}
-use Rattle.sections.specs.declared.Role.the-variants.{Sizes, Initial, Persistent, Clauses, Rules, Goals}
+use Rattle.sections.specs.declared.Role.the-variants.{Sizes, Initial, Persistent, Names, Clauses, Rules, Goals}
 
 -- "All numbers are big-endian .. a 4-byte length": the number that the first four bytes are
 unfoldable pub long : List ℕ → ℕ
@@ -70,24 +71,32 @@ unfoldable pub sizes : List ℕ → Option ℕ
 unfolding given _orElse_ word
 sizes bytes = given (not (eqb (length bytes) 2)) 4 orElse given (ltb 4096 (word bytes)) 5
 
--- "4 to 7 for the model": what a section of each role is judged for, in a model of F facts; the persistent facts are
--- "judged like the initial facts" (document 02, wish 2)
-unfoldable pub reader : Role → ℕ → List ℕ → Option Fault
-unfolding allOf sizes bare firstFault judge
-reader Sizes F bytes = allOf (sizes bytes) bytes
-reader Initial F bytes = allOf (bare F bytes) bytes
-reader Persistent F bytes = allOf (bare F bytes) bytes
-reader Clauses F bytes = firstFault (judge kind.Clause F) bytes
-reader Rules F bytes = firstFault (judge kind.Rule F) bytes
-reader Goals F bytes = firstFault (judge kind.Goal F) bytes
+-- "Model version 3 is version 2 with .. a fourth list in each rule, the names it makes" (document 02, wish 9): what the
+-- rules of a version are
+unfoldable pub ruleKind : ℕ → Kind
+ruleKind version = cond (leb 3 version) kind.Maker kind.Rule
 
--- "Records are numbered from 0.": how many a section of the role has; sizes and initial facts "count as one record
--- each" and have none
+-- "4 to 7 for the model": what a section of each role is judged for, in a model of a version and of F facts; the
+-- persistent facts are "judged like the initial facts" (document 02, wish 2), the names like these but for "a name over
+-- 1,023" (wish 9)
+unfoldable pub reader : ℕ → Role → ℕ → List ℕ → Option Fault
+unfolding allOf sizes bare firstFault judge ruleKind
+reader version Sizes F bytes = allOf (sizes bytes) bytes
+reader version Initial F bytes = allOf (bare false F bytes) bytes
+reader version Persistent F bytes = allOf (bare false F bytes) bytes
+reader version Names F bytes = allOf (bare true 1024 bytes) bytes
+reader version Clauses F bytes = firstFault (judge kind.Clause F) bytes
+reader version Rules F bytes = firstFault (judge (ruleKind version) F) bytes
+reader version Goals F bytes = firstFault (judge kind.Goal F) bytes
+
+-- "Records are numbered from 0.": how many a section of the role has; sizes and bare numbers "count as one record each"
+-- and have none
 unfoldable pub entries : Role → List ℕ → ℕ
 unfolding records
 entries Sizes bytes = 0
 entries Initial bytes = 0
 entries Persistent bytes = 0
+entries Names bytes = 0
 entries Clauses bytes = length (records bytes)
 entries Rules bytes = length (records bytes)
 entries Goals bytes = length (records bytes)
@@ -99,7 +108,7 @@ unfoldable pub tooLong : ℕ → List ℕ → Option Fault
 unfolding given
 tooLong most file = given (ltb most (length file)) (record { number = 2; start = 0; size = length file })
 
--- 3: "a file empty, or first byte not 1", for a model "neither 1 nor 2" (document 02, wish 2): no version from 1 to the
+-- 3: "a file empty, or first byte not 1", for a model none of those of document 02 either: no version from 1 to the
 -- latest; "the first byte, or the empty part of an empty file"
 unfoldable pub wrongVersion : ℕ → List ℕ → Option Fault
 unfolding given

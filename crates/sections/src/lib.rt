@@ -4,11 +4,11 @@ ghost use mathlib.Core.Path.{_≡_};
 ghost use mathlib.Core.Bool.{not, cond};
 ghost use Prim.Native.Nat.{_+_, _≤_, _<_};
 ghost use lib.Dec.{eqb};
-ghost use lib.ListN.{length, drop};
+ghost use lib.ListN.{length, drop, getD};
 ghost use Rattle.records.specs.Records.{given, bare};
 ghost use Rattle.records.specs.Answers.{code, found};
 ghost use Rattle.sections.specs.Sections.{long, endAt, fits, payload, inSection, restFault, moved, allOf};
-ghost use Rattle.sections.specs.Sections.{sizes, reader, entries};
+ghost use Rattle.sections.specs.Sections.{sizes, ruleKind, reader, entries};
 ghost use Rattle.sections.specs.Answers.{passed};
 
 pub mod head;
@@ -22,6 +22,7 @@ pub enum Role {
     Sizes,
     Initial,
     Persistent,
+    Names,
     Clauses,
     Rules,
     Goals,
@@ -114,38 +115,50 @@ fn sizes_number(bytes: &[u8]) -> u8
     0
 }
 
-// The answer for bare facts, in a model of so many.
-fn numbers(bytes: &[u8], facts: usize) -> Found
-    ensures { λ r. ⌜ r ≡ found (allOf (bare facts (now (bytes .entry))) (now (bytes .entry))) 0 ⌝ }
+// The answer for bare numbers, names or facts, below a limit.
+fn numbers(bytes: &[u8], names: bool, limit: usize) -> Found
+    ensures { λ r. ⌜ r ≡ found (allOf (bare names limit (now (bytes .entry))) (now (bytes .entry))) 0 ⌝ }
 {
-    whole(records::numbers_number(bytes, facts), bytes.len())
+    whole(
+        records::numbers_number(bytes, names, limit),
+        bytes.len(),
+    )
 }
 
-// The answer for a section's bytes, in a model of so many facts.
-fn read(bytes: &[u8], role: Role, facts: usize) -> Found
-    ensures { λ r. ⌜ r ≡ found (reader role facts (now (bytes .entry))) (entries role (now (bytes .entry))) ⌝ }
+// What the rules of a version are.
+pub fn rule_kind(version: u8) -> Kind
+    ensures { λ r. ⌜ r ≡ ruleKind version ⌝ }
+{
+    if version < 3 { Kind::Rule } else { Kind::Maker }
+}
+
+// The answer for a section's bytes, in a model of a version and of so many facts.
+fn read(bytes: &[u8], version: u8, role: Role, facts: usize) -> Found
+    ensures { λ r. ⌜ r ≡ found (reader version role facts (now (bytes .entry))) (entries role (now (bytes .entry))) ⌝ }
 {
     match role {
         Role::Sizes => whole(sizes_number(bytes), bytes.len()),
-        Role::Initial => numbers(bytes, facts),
-        Role::Persistent => numbers(bytes, facts),
+        Role::Initial => numbers(bytes, false, facts),
+        Role::Persistent => numbers(bytes, false, facts),
+        Role::Names => numbers(bytes, true, 1024),
         Role::Clauses => records::first_fault(bytes, Kind::Clause, facts),
-        Role::Rules => records::first_fault(bytes, Kind::Rule, facts),
+        Role::Rules => records::first_fault(bytes, rule_kind(version), facts),
         Role::Goals => records::first_fault(bytes, Kind::Goal, facts),
     }
 }
 
 // The section whose length stands at a place, in a model of so many facts.
 pub fn judge_section(file: &[u8], at: usize, role: Role, facts: usize) -> Passed
-    ensures { λ r. ⌜ r ≡ passed (inSection (reader role facts) (now (file .entry)) at) (endAt (now (file .entry)) at)
-        (entries role (payload (now (file .entry)) at)) ⌝ }
+    ensures { λ r. let model = now (file .entry) in
+        ⌜ r ≡ passed (inSection (reader (getD model 0 0) role facts) model at) (endAt model at)
+        (entries role (payload model at)) ⌝ }
 {
     let end = section_end(file, at);
     if end == 0 {
         return Passed::Fault(rest_fault(file, at));
     }
     let by = at + 4;
-    match read(&file[by..end], role, facts) {
+    match read(&file[by..end], head::version_of(file), role, facts) {
         Found::Fine(count) => Passed::To { end, count },
         Found::Fault(fault) => Passed::Fault(move_fault(fault, by)),
     }

@@ -5,6 +5,7 @@ use mathlib.Core.Path.{_≡_, _∙_, sym}
 use mathlib.Core.List.{List}
 use mathlib.Core.Option.{Option, some}
 use native.Mathlib.Omega.{arith}
+use lib.ListN.{getD}
 use denote.Ref.{now}
 use Rattle.records.specs.declared.Fault.{Fault}
 use Rattle.records.specs.Answers.{found}
@@ -28,16 +29,19 @@ bytes c = let args = c .before .before .before .args in payload (now (args .file
 
 -- what is at fault in them
 abbrev fault : tie.Else1 → Option Fault
-fault c = let args = c .before .before .before .args in reader (args .role) (args .facts) (bytes c)
+fault c =
+    let args = c .before .before .before .args in
+    reader (getD (now (args .file)) 0 0) (args .role) (args .facts) (bytes c)
 
 -- what was found is what is at fault
 read-is : (c : tie.After-read)
-    → let test = c .before .before in
+    → let test = c .before .before .before in
     c .read .result ≡ found (fault test) (entries (test .before .before .before .args .role) (bytes test))
-read-is c = rw (ended-bytes _ _ _ (ended (c .before .before))) at (c .read .ensures)
+read-is c =
+    rw (ended-bytes _ _ _ (ended (c .before .before .before)), c .before .version-of .ensures) at (c .read .ensures)
 
 -- the fault, where one was found
-read-fault : (c : tie.After-fault) → fault (c .before .before .before .before) ≡ some (c .fault .given .0 .0)
+read-fault : (c : tie.After-fault) → fault (c .before .before .before .before .before) ≡ some (c .fault .given .0 .0)
 read-fault c = found-fault _ _ _ (sym (read-is (c .before .before)) ∙ c .fault .given .1)
 
 section-end-requires : tie.Need-section-end-requires
@@ -62,6 +66,9 @@ part-read-start c = omega (arith, ended c)
 part-read-end : tie.Need-part-read-end
 part-read-end c = omega (arith, ended c)
 
+version-of-requires : tie.Need-version-of-requires
+version-of-requires c κs = search needs
+
 read-requires : tie.Need-read-requires
 read-requires c κs = search needs
 
@@ -73,24 +80,24 @@ enum-known-fault c = search needs
 
 move-fault-requires : tie.Need-move-fault-requires
 move-fault-requires c κs =
-    let test = c .before .before .before .before .before in
+    let test = c .before .before .before .before .before .before in
     let args = test .before .before .before .args in
     omega (
       arith,
       ended test,
       ended-size _ _ _ (ended test),
-      reader-within (args .role) (args .facts) _ _ (read-fault (c .before)),
+      reader-within _ (args .role) (args .facts) _ _ (read-fault (c .before)),
     )
 
 returns-2 : tie.Need-returns-2
 returns-2 c =
-    let test = c .before .before .before .before .before in
+    let test = c .before .before .before .before .before .before in
     let fine = found-fine _ _ _ (sym (read-is (c .before .before .before)) ∙ c .before .count .given .1) in
     rw (fine .1) (fine-answer _ _ _ _ _ (ended test) (fine .0))
 
 returns-3 : tie.Need-returns-3
 returns-3 c =
-    let test = c .before .before .before .before .before .before in
+    let test = c .before .before .before .before .before .before .before in
     rw (c .move-fault .ensures) (fault-answer _ _ _ _ _ _ (ended test) (read-fault (c .before .before)))
 
 pub judge-section-spec : {M : Type 1} → statement M
@@ -104,6 +111,7 @@ judge-section-spec =
     sub-read
     part-read-start
     part-read-end
+    version-of-requires
     read-requires
     enum-known-count
     enum-known-fault

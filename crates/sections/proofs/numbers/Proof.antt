@@ -1,4 +1,4 @@
--- `sections::numbers` meets its contract: the number of bare facts is for all of them.
+-- `sections::numbers` meets its contract: the number of bare numbers is for all of them.
 use mathlib.Core.Path.{_∙_}
 use denote.Ref.{now}
 use Rattle.records.specs.Records.{bare}
@@ -18,7 +18,7 @@ returns c =
     let args = c .before .before .before .args in
     let bytes = now (args .bytes) in
     c .whole .ensures
-    ∙ rw (whole-fault (bare (args .facts) bytes) bytes (bare-counted (args .facts) bytes)
+    ∙ rw (whole-fault (bare (args .names) (args .limit) bytes) bytes (bare-counted _ _ _)
     (c .before .numbers-number .ensures))
 
 pub numbers-spec : {M : Type 1} → statement M

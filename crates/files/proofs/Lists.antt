@@ -29,7 +29,8 @@ use Rattle.files.proofs.Laws.{facts-bound, initial-below, rules-cut, go
 -- ---- rules and attack states as records
 
 -- A rule of the model is its record's lists; one that the model lacks has none.
-pub rule-in : (m : List ℕ) (k : ℕ) → ruleOf (modelOf m) k ≡ ruleIn (getD m 0 0) (getD (records (sectionOf m Rules)) k [])
+pub rule-in : (m : List ℕ) (k : ℕ)
+    → ruleOf (modelOf m) k ≡ ruleIn (getD m 0 0) (getD (records (sectionOf m Rules)) k [])
 unfolding ruleOf modelOf ruleIn listOf listsOf whole word
 rule-in m k = List·getD-map (ruleIn (getD m 0 0)) (records (sectionOf m Rules)) k []
 

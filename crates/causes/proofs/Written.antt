@@ -109,20 +109,20 @@ record-written r b e =
     ∙ take-append-drop 2 r
 
 -- lists one after the other
-three-lists : (p n a : List ℕ)
-    → ruleBytes (record { P = p; N = n; A = a }) ≡ recordBytes (flatMap listBytes (p ∷ n ∷ a ∷ []))
+three-lists : (x : Rule) → ruleBytes x ≡ recordBytes (flatMap listBytes (x .P ∷ x .N ∷ x .A ∷ []))
 unfolding ruleBytes flatMap
-three-lists p n a =
+three-lists x =
     ap recordBytes
-    (append-assoc (listBytes p) (listBytes n) (listBytes a)
-    ∙ ap (λ (l : List ℕ). listBytes p ++ (listBytes n ++ l)) (sym (append-nil (listBytes a))))
+    (append-assoc (listBytes (x .P)) (listBytes (x .N)) (listBytes (x .A))
+    ∙ ap (λ (l : List ℕ). listBytes (x .P) ++ (listBytes (x .N) ++ l)) (sym (append-nil (listBytes (x .A)))))
 
 two-lists : (p n : List ℕ) → goalBytes (record { P = p; N = n }) ≡ recordBytes (flatMap listBytes (p ∷ n ∷ []))
 unfolding goalBytes flatMap
 two-lists p n = ap (λ (l : List ℕ). recordBytes (listBytes p ++ l)) (sym (append-nil (listBytes n)))
 
 -- the rule and the attack state of a record's lists
-rule-of : (r p n a : List ℕ) → listsOf kind.Rule r ≡ some (p ∷ n ∷ a ∷ []) → ruleIn r ≡ record { P = p; N = n; A = a }
+rule-of : (r p n a : List ℕ) → listsOf kind.Rule r ≡ some (p ∷ n ∷ a ∷ [])
+    → ruleIn 1 r ≡ record { P = p; N = n; A = a; names = [] }
 unfolding ruleIn listOf
 rule-of r p n a e = rw e
 
@@ -152,7 +152,7 @@ module _ (r : List ℕ) (b : AllBytes r) where
       (λ t. absurd (Option·none-ne-some lists (sym (lists-none K r (eqb-false _ _ t)) ∙ e)))
 
   -- A rule's record whose shape is right is that rule, written.
-  pub rule-written : Cut kind.Rule r → ruleBytes (ruleIn r) ≡ r
+  pub rule-written : Cut kind.Rule r → ruleBytes (ruleIn 1 r) ≡ r
   unfolding Cut cut
   rule-written (lists, e) =
       let (whole, is) = opened kind.Rule lists e in
@@ -160,11 +160,11 @@ module _ (r : List ℕ) (b : AllBytes r) where
       rule-is lists e count ∙ written
     where
       rule-is : (lists : List (List ℕ)) → listsOf kind.Rule r ≡ some lists → length lists ≡ 3
-          → ruleBytes (ruleIn r) ≡ recordBytes (flatMap listBytes lists)
+          → ruleBytes (ruleIn 1 r) ≡ recordBytes (flatMap listBytes lists)
       rule-is [] e h = absurd (omega arith)
       rule-is (p ∷ []) e h = absurd (omega arith)
       rule-is (p ∷ n ∷ []) e h = absurd (omega arith)
-      rule-is (p ∷ n ∷ a ∷ []) e h = ap ruleBytes (rule-of r p n a e) ∙ three-lists p n a
+      rule-is (p ∷ n ∷ a ∷ []) e h = ap ruleBytes (rule-of r p n a e) ∙ three-lists _
       rule-is (p ∷ n ∷ a ∷ x ∷ xs) e h = absurd (omega arith)
 
   -- So is an attack state's.
@@ -265,8 +265,7 @@ shape-read K lists kind-is =
 rule-lists : (x : Rule) → listsOf kind.Rule (ruleBytes x) ≡ some (x .P ∷ x .N ∷ x .A ∷ [])
 unfolding cut
 rule-lists x =
-    ap (listsOf kind.Rule) (three-lists (x .P) (x .N) (x .A))
-    ∙ shape-read kind.Rule (x .P ∷ x .N ∷ x .A ∷ []) (λ _. refl)
+    ap (listsOf kind.Rule) (three-lists x) ∙ shape-read kind.Rule (x .P ∷ x .N ∷ x .A ∷ []) (λ _. refl)
 
 goal-lists : (x : Goal) → listsOf kind.Goal (goalBytes x) ≡ some (x .P ∷ x .N ∷ [])
 unfolding cut
@@ -296,7 +295,7 @@ clause-lists c =
 module _ (r : List ℕ) (b : AllBytes r) where
   pub rule-shape : Cut kind.Rule r ↔ ((x : Rule) × (ruleBytes x ≡ r))
   unfolding Cut
-  rule-shape = (λ c. (ruleIn r, rule-written r b c), λ (x, e). (_, rw e at (rule-lists x)))
+  rule-shape = (λ c. (ruleIn 1 r, rule-written r b c), λ (x, e). (_, rw e at (rule-lists x)))
 
   pub goal-shape : Cut kind.Goal r ↔ ((x : Goal) × (goalBytes x ≡ r))
   unfolding Cut

@@ -110,7 +110,7 @@ module _ (file : List ℕ) (fine : shapeFault file ≡ none) where
       → Below (factCount file) (r .P) × Below (factCount file) (r .N) × Below (factCount file) (r .A)
   unfolding modelOf ruleIn
   rule-below r member =
-      let (bytes, there, is) = Memᴰ·of-map ruleIn (records (sectionOf file Rules)) member in
+      let (bytes, there, is) = Memᴰ·of-map (ruleIn (getD file 0 0)) (records (sectionOf file Rules)) member in
       let facts = judged-facts kind.Rule _ _ rules-judged bytes there in
       rw (← is) (facts 0, facts 1, facts 2)
 

@@ -29,9 +29,10 @@ use Rattle.files.proofs.Laws.{facts-bound, initial-below, rules-cut, go
 -- ---- rules and attack states as records
 
 -- A rule of the model is its record's lists; one that the model lacks has none.
-pub rule-in : (m : List ℕ) (k : ℕ) → ruleOf (modelOf m) k ≡ ruleIn (getD (records (sectionOf m Rules)) k [])
+pub rule-in : (m : List ℕ) (k : ℕ)
+    → ruleOf (modelOf m) k ≡ ruleIn (getD m 0 0) (getD (records (sectionOf m Rules)) k [])
 unfolding ruleOf modelOf ruleIn listOf listsOf whole word
-rule-in m k = List·getD-map ruleIn (records (sectionOf m Rules)) k []
+rule-in m k = List·getD-map (ruleIn (getD m 0 0)) (records (sectionOf m Rules)) k []
 
 -- So is an attack state.
 pub goal-in : (m : List ℕ) (g : ℕ) → goalOf (modelOf m) g ≡ goalIn (getD (records (sectionOf m Goals)) g [])
@@ -53,7 +54,7 @@ list-known : (m : List ℕ) → shapeFault m ≡ none → (K : Kind) (section : 
     → (k : ℕ) → k < length (records section) → (j : ℕ) (bytes : List ℕ)
     → ListBytes K (getD (records section) k []) j bytes → Known bytes
 list-known m fine K section judged k h j bytes l = record {
-  facts = λ f i.
+  below = λ f i.
       let below =
       judged-facts K (factCount m) section judged (getD (records section) k []) (record-in (records section) k h) j
       f in
@@ -66,7 +67,7 @@ module _ (m : List ℕ) (fine : shapeFault m ≡ none) where
   pub initial-known : Known (sectionOf m Initial)
   unfolding modelOf reader
   initial-known = record {
-    facts = λ f i. omega (arith, facts-bound m fine, initial-below m fine f i);
+    below = λ f i. omega (arith, facts-bound m fine, initial-below m fine f i);
     even =
         let bytes = sectionOf m Initial in
         even-length bytes

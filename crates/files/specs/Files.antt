@@ -84,10 +84,11 @@ unfoldable pub clausesIn : List ℕ → List Clause
 unfolding records clauseOf
 clausesIn section = map clauseOf (records section)
 
--- "A rule is three lists P, N, A"
-unfoldable pub ruleIn : List ℕ → Rule
+-- "A rule is three lists P, N, A", in a model of a version
+unfoldable pub ruleIn : ℕ → List ℕ → Rule
 unfolding listOf
-ruleIn r = record { P = listOf kind.Rule r 0; N = listOf kind.Rule r 1; A = listOf kind.Rule r 2 }
+ruleIn version r =
+    record { P = listOf kind.Rule r 0; N = listOf kind.Rule r 1; A = listOf kind.Rule r 2; names = [] }
 
 -- "an attack state two, P and N"
 unfoldable pub goalIn : List ℕ → Goal
@@ -101,8 +102,9 @@ modelOf file = record {
   F = factCount file;
   initial = words (sectionOf file Initial);
   persistent = words (sectionOf file Persistent);
+  names = [];
   clauses = clausesIn (sectionOf file Clauses);
-  rules = map ruleIn (records (sectionOf file Rules));
+  rules = map (ruleIn (getD file 0 0)) (records (sectionOf file Rules));
   goals = map goalIn (records (sectionOf file Goals));
 }
 

@@ -6,10 +6,13 @@ ghost use mathlib.Core.Bool.{true};
 ghost use mathlib.Core.List.{[]};
 ghost use Prim.Native.Nat.{_<_};
 ghost use lib.ListN.{length, getD};
+ghost use Rattle.sets.specs.Sets.{_∈_};
+ghost use Rattle.records.specs.Words.{words};
 ghost use Rattle.records.specs.Records.{records};
 ghost use Rattle.sections.specs.Sections.{fits, sectionAt};
 ghost use Rattle.sections.specs.declared.Role.{Role};
-ghost use Rattle.files.specs.Files.{placeOfRole, sectionOf, entriesOf, factCount, shapeFault};
+ghost use Rattle.files.specs.Files.{placeOfRole, sectionOf, entriesOf, factCount, ruleIn, modelOf, shapeFault};
+ghost use Rattle.files.specs.Known.{KnownNames};
 ghost use Rattle.files.specs.Answers.{goalPart};
 use super::Part;
 use super::model;
@@ -75,6 +78,23 @@ pub fn goal_part(model: &[u8], g: usize) -> Part
         start: place_of(model, Role::Goals) + 4 + at,
         size: record.len(),
     }
+}
+
+// The names in use at the start.
+pub fn names(model: &[u8]) -> &[u8]
+    requires { ⌜ shapeFault (now model) ≡ none ⌝ }
+    ensures { λ r. ⌜ (words (now r) ≡ modelOf (now (model .entry)) .names) × KnownNames (now r) ⌝ }
+{
+    &model[..0]
+}
+
+// The names that a rule makes.
+pub fn made<'a>(model: &[u8], rule: &'a [u8]) -> &'a [u8]
+    requires { ⌜ (shapeFault (now model) ≡ none) × (now rule ∈ records (sectionOf (now model) Role.Rules)) ⌝ }
+    ensures { λ r. ⌜ (words (now r) ≡ ruleIn (getD (now (model .entry)) 0 0) (now (rule .entry)) .names)
+        × KnownNames (now r) ⌝ }
+{
+    &rule[..0]
 }
 
 // The trace's entries: the bytes of its section.

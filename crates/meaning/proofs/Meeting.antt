@@ -1,18 +1,18 @@
 -- Conditions: the first entry that passes a test, and the first unmet condition.
 use Prim.Native.Nat.{ℕ}
-use mathlib.Core.Path.{_≡_, refl, sym, _∙_, ap}
+use mathlib.Core.Path.{_≡_, refl, ap}
 use mathlib.Core.Logic.{_↔_, inl, inr}
 use mathlib.Core.Bool.{Bool, true, false, not, Bool·not-not}
-use mathlib.Core.List.{List, [], _∷_, _++_, map, append-nil}
+use mathlib.Core.List.{List, [], _∷_, _++_, map, append-nil, append-assoc}
 use mathlib.Core.List.{List·Memᴰ·head, List·Memᴰ·tail, List·Memᴰ·cases-cons, List·Memᴰ·not-nil}
 use mathlib.Core.Option.{Option, none, some, Option·elim}
 use lib.Dec.{T}
 use Rattle.sets.specs.Sets.{Facts, _∈_}
 use Rattle.meaning.specs.Run.{Condition, met, conditions, find, unmet}
-use Rattle.meaning.specs.Run.Condition.{positive, negative}
-use Rattle.meaning.specs.Published.{Meets}
+use Rattle.meaning.specs.Run.Condition.{positive, negative, unused}
+use Rattle.meaning.specs.Published.{Meets, Fresh}
 use Rattle.meaning.specs.Promises.{FirstUnmet}
-use Rattle.meaning.specs.Promises.FirstUnmet.{absent, present}
+use Rattle.meaning.specs.Promises.FirstUnmet.{absent, present, inUse}
 use Rattle.sets.proofs.Laws.{is-true, is-false, passes, fails, by-test, negated, affirmed}
 
 module _ {ℓ} {A : Type ℓ} (p : A → Bool) where
@@ -63,64 +63,98 @@ module _ {ℓ} {A : Type ℓ} (p : A → Bool) where
   find-mapped g [] ys = refl
   find-mapped g (x ∷ xs) ys = by-test (p (g x)) (λ e. rw (e, find)) (λ e. rw (e, find) (find-mapped g xs ys))
 
-module _ (X : Facts) (P N : List ℕ) where
-  -- The first unmet condition is the first of P outside X or, where there is none, the first of N inside.
-  unmet-split : unmet X (conditions P N) ≡ Option·elim (find (λ f. not (X f)) P)
-      (Option·elim (find X N) none (λ f. some (negative f))) (λ f. some (positive f))
+module _ (X used : Facts) (P N names : List ℕ) where
+  -- The first unmet condition is the first of P outside X or, where there is none, the first of N inside or, where
+  -- there is none either, the first name that is used.
+  unmet-split : unmet X used (conditions P N names) ≡ Option·elim (find (λ f. not (X f)) P)
+      (Option·elim (find X N) (Option·elim (find used names) none (λ n. some (unused n))) (λ f. some (negative f)))
+      (λ f. some (positive f))
   unfolding unmet conditions met
   unmet-split =
-      let t : Condition → Bool = λ c. not (met X c) in
-      find-mapped t positive P (map negative N)
-      ∙ ap (λ o. Option·elim (find (λ f. not (X f)) P) o (λ f. some (positive f)))
-      (ap (find t) (sym (append-nil (map negative N))) ∙ find-mapped t negative N [] ∙ simp Bool·not-not)
+      let t : Condition → Bool = λ c. not (met X used c) in
+      rw (
+        append-assoc,
+        find-mapped t positive P,
+        find-mapped t negative N,
+        ← append-nil (map unused names),
+        find-mapped t unused names [],
+      ) (simp Bool·not-not)
 
   -- this is the first unmet condition, or it is none and the conditions are met
   abbrev pub Met : Option Condition → Type 0
-  Met none = Meets X P N
-  Met (some c) = FirstUnmet X P N c
+  Met none = Meets X P N × Fresh used names
+  Met (some c) = FirstUnmet X used P N names c
+
+  -- Where no entry of P is outside X and none of N inside, they are met.
+  all-met : None (λ f. not (X f)) P → None X N → Meets X P N
+  all-met h k = record { positive = λ f m. affirmed (X f) (h f m); negative = k }
 
   -- What unmet computes is the first unmet condition, or none where the conditions are met.
-  pub unmet-is : Met (unmet X (conditions P N))
+  pub unmet-is : Met (unmet X used (conditions P N names))
   unfolding Option·elim
-  unmet-is = rw unmet-split (go (find (λ f. not (X f)) P) (find-is (λ f. not (X f)) P) (find X N) (find-is X N))
+  unmet-is =
+      rw unmet-split
+      (go (find (λ f. not (X f)) P) (find-is (λ f. not (X f)) P) (find X N) (find-is X N) (find used names)
+      (find-is used names))
     where
       go : (o : Option ℕ) → FoundIn (λ f. not (X f)) P o → (q : Option ℕ) → FoundIn X N q
-          → Met (Option·elim o (Option·elim q none (λ f. some (negative f))) (λ f. some (positive f)))
-      go (some f) h q k = absent (h .0) (h .1) (h .2) (λ b m. affirmed (X b) (h .3 b m)) (negated (X f) .0 (h .4))
-      go none h none k = record { positive = λ f m. affirmed (X f) (h f m); negative = k }
-      go none h (some f) k = present (λ b m. affirmed (X b) (h b m)) (k .0) (k .1) (k .2) (k .3) (k .4)
+          → (u : Option ℕ) → FoundIn used names u
+          → Met (Option·elim o (Option·elim q (Option·elim u none (λ n. some (unused n))) (λ f. some (negative f)))
+          (λ f. some (positive f)))
+      go (some f) h q k u w = absent (h .0) (h .1) (h .2) (λ b m. affirmed (X b) (h .3 b m)) (negated (X f) .0 (h .4))
+      go none h (some f) k u w = present (λ b m. affirmed (X b) (h b m)) (k .0) (k .1) (k .2) (k .3) (k .4)
+      go none h none k (some n) w = inUse (all-met h k) (w .0) (w .1) (w .2) (w .3) (w .4)
+      go none h none k none w = (all-met h k, w)
 
   -- Where all of a list is in X, no entry is outside.
   none-outside : {L : List ℕ} → ((b : ℕ) → b ∈ L → T (X b)) → None (λ f. not (X f)) L
   none-outside h f m t = negated (X f) .0 t (h f m)
 
   -- Whatever is the first unmet condition, or none, is what unmet computes.
-  pub unmet-from : (u : Option Condition) → Met u → unmet X (conditions P N) ≡ u
+  pub unmet-from : (u : Option Condition) → Met u → unmet X used (conditions P N names) ≡ u
   unfolding Option·elim
-  unmet-from none h =
-      rw (unmet-split, find-none (λ f. not (X f)) P (none-outside (h .positive)), find-none X N (h .negative))
+  unmet-from none (h, k) =
+      rw (
+        unmet-split,
+        find-none (λ f. not (X f)) P (none-outside (h .positive)),
+        find-none X N (h .negative),
+        find-none used names k,
+      )
   unmet-from (some c) h = elim h [
     | absent {f} met rest e h n ↦
         rw (unmet-split, e, find-some (λ f. not (X f)) met rest f (none-outside h) (negated (X f) .1 n))
     | present {f} h met rest e n t ↦
         rw (unmet-split, find-none (λ f. not (X f)) P (none-outside h), e, find-some X met rest f n t)
+    | inUse {n} h met rest e k t ↦
+        rw (
+          unmet-split,
+          find-none (λ f. not (X f)) P (none-outside (h .positive)),
+          find-none X N (h .negative),
+          e,
+          find-some used met rest n k t,
+        )
   ]
 
   -- No condition is unmet exactly if the conditions are met.
-  pub unmet-none : (unmet X (conditions P N) ≡ none) ↔ Meets X P N
+  pub unmet-none : (unmet X used (conditions P N names) ≡ none) ↔ (Meets X P N × Fresh used names)
   unmet-none = (λ e. rw e at unmet-is, unmet-from none)
 
   -- A condition is the first unmet one by computation exactly if it is so by its place.
-  pub unmet-some : (c : Condition) → (unmet X (conditions P N) ≡ some c) ↔ FirstUnmet X P N c
+  pub unmet-some : (c : Condition) → (unmet X used (conditions P N names) ≡ some c) ↔ FirstUnmet X used P N names c
   unmet-some c = (λ e. rw e at unmet-is, unmet-from (some c))
 
   -- A positive condition that is the first unmet one is the first of P outside X.
-  pub first-absent : {f : ℕ} → FirstUnmet X P N (positive f)
+  pub first-absent : {f : ℕ} → FirstUnmet X used P N names (positive f)
       → (met rest : List ℕ) × (P ≡ met ++ f ∷ rest) × ((b : ℕ) → b ∈ met → T (X b)) × (T (X f) → ⊥)
   first-absent (absent met rest e h n) = (met, rest, e, h, n)
 
   -- A negative one is the first of N inside X, and all of P is inside.
-  pub first-present : {f : ℕ} → FirstUnmet X P N (negative f)
+  pub first-present : {f : ℕ} → FirstUnmet X used P N names (negative f)
       → ((b : ℕ) → b ∈ P → T (X b)) × (met rest : List ℕ) × (N ≡ met ++ f ∷ rest)
       × ((b : ℕ) → b ∈ met → T (X b) → ⊥) × T (X f)
   first-present (present h met rest e n t) = (h, met, rest, e, n, t)
+
+  -- That of a name is the first that is used, and P and N are met.
+  pub first-used : {n : ℕ} → FirstUnmet X used P N names (unused n)
+      → Meets X P N × (met rest : List ℕ) × (names ≡ met ++ n ∷ rest) × Fresh used met × T (used n)
+  first-used (inUse h met rest e k t) = (h, met, rest, e, k, t)

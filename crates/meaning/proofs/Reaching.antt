@@ -3,8 +3,8 @@ use Prim.Native.Nat.{ℕ, suc, _+_, _<_}
 use native.Mathlib.Nat.{zero-add, add-assoc}
 use native.Mathlib.Omega.{arith}
 use mathlib.Core.Path.{_≡_, refl, _∙_, ap}
-use mathlib.Core.Logic.{_↔_, inl, inr}
-use mathlib.Core.Bool.{Bool, true, false, not, _&&_}
+use mathlib.Core.Logic.{_↔_, _⊎_, inl, inr}
+use mathlib.Core.Bool.{Bool, true, false, not, _&&_, _||_}
 use mathlib.Core.List.{List, [], _∷_, List·Memᴰ·head, List·Memᴰ·tail}
 use mathlib.Core.Option.{Option, none, some}
 use lib.Dec.{T}
@@ -12,11 +12,11 @@ use lib.ListN.{length, getD, take}
 use Rattle.sets.specs.Sets.{Facts, listed, _∈_}
 use Rattle.meaning.specs.Model.{Rule, Model, State, ruleOf, goalOf}
 use Rattle.meaning.specs.Rounds.{rounds, closure}
-use Rattle.meaning.specs.Run.{Condition, conditions, unmet, after, Reached, stays, onward, reach}
+use Rattle.meaning.specs.Run.{Condition, conditions, unmet, unmetOf, after, Reached, stays, onward, reach}
 use Rattle.meaning.specs.Run.{asked, ending, outcomeOf}
-use Rattle.meaning.specs.Published.{HC, Meets, Next, Transition, Path}
+use Rattle.meaning.specs.Published.{HC, Next, Transition, Path}
 use Rattle.meaning.specs.Published.Path.{here, step}
-use Rattle.meaning.specs.Promises.{FirstUnmet, roundsOn, EndsSo, IsOutcomeFrom}
+use Rattle.meaning.specs.Promises.{FirstUnmetOf, roundsOn, EndsSo, IsOutcomeFrom}
 use Rattle.meaning.specs.Promises.EndsSo.{attack, blocked, notMet}
 use Rattle.sets.proofs.Laws.{both, either, listed-is}
 use Rattle.meaning.proofs.Closing.{closure-is-HC}
@@ -28,25 +28,37 @@ not-removed true true = (λ t s. tt, λ h. tt)
 not-removed true false = (λ t s. t, λ h. h tt)
 not-removed false k = (λ t s. absurd s, λ h. tt)
 
--- The state after a rule is the state without those of P that aren't persistent, together with A.
+-- What stays or is named by a list.
+with-listed : (b : Bool) {B : Type 0} → (T b ↔ B) → (xs : List ℕ) (f : ℕ) → T (b || listed xs f) ↔ (B ⊎ (f ∈ xs))
+with-listed b h xs f = (
+  λ t. elim (either b (listed xs f) .0 t) [ inl k ↦ inl (h .0 k) | inr m ↦ inr (listed-is xs f .0 m) ],
+  λ s. either b (listed xs f) .1 (elim s [ inl k ↦ inl (h .1 k) | inr m ↦ inr (listed-is xs f .1 m) ]),
+)
+
+-- The state after a rule is the state without those of P that aren't persistent, together with A; its names are used.
 pub after-is : (kept : List ℕ) (r : Rule) (S : State) → Next kept r S (after kept r S)
-unfolding after Next
-after-is kept r S f =
-    let stays = not (listed (r .P) f && not (listed kept f)) in
-    let removal = not-removed (listed (r .P) f) (listed kept f) in (
-      λ t. elim (either (S .facts f && stays) (listed (r .A) f) .0 t) [
-        | inl k ↦
-            let (s, n) = both (S .facts f) stays .0 k in
-            inl (s, λ m. listed-is kept f .0 (removal .0 n (listed-is (r .P) f .1 m)))
-        | inr a ↦ inr (listed-is (r .A) f .0 a)
-      ],
-      λ s. either (S .facts f && stays) (listed (r .A) f) .1 (elim s [
-        | inl k ↦
-            let n = removal .1 (λ t. listed-is kept f .1 (k .1 (listed-is (r .P) f .0 t))) in
-            inl (both (S .facts f) stays .1 (k .0, n))
-        | inr m ↦ inr (listed-is (r .A) f .1 m)
-      ]),
-    )
+unfolding after
+after-is kept r S = record {
+  facts = λ f. with-listed (left f) (left-is f) (r .A) f;
+  names = λ n. with-listed (S .names n) (λ t. t, λ t. t) (r .names) n;
+}
+  where
+    stays : ℕ → Bool
+    stays f = not (listed (r .P) f && not (listed kept f))
+
+    left : ℕ → Bool
+    left f = S .facts f && stays f
+
+    left-is : (f : ℕ) → T (left f) ↔ (T (S .facts f) × (f ∈ r .P → f ∈ kept))
+    left-is f =
+        let removal = not-removed (listed (r .P) f) (listed kept f) in (
+          λ t.
+              let (s, n) = both (S .facts f) (stays f) .0 t in
+              (s, λ m. listed-is kept f .0 (removal .0 n (listed-is (r .P) f .1 m))),
+          λ (s, k).
+              let n = removal .1 (λ t. listed-is kept f .1 (k (listed-is (r .P) f .0 t))) in
+              both (S .facts f) (stays f) .1 (s, n),
+        )
 
 -- the state after the model's rule k
 abbrev pub afterRule : Model → ℕ → State → State
@@ -61,22 +73,26 @@ module _ (m : Model) where
   pub closed-is : (S : State) → HC (m .clauses) (S .facts) (closed m S)
   closed-is S = closure-is-HC (m .clauses) (S .facts)
 
-  -- the first condition of rule k that a state leaves unmet, if there is one
-  abbrev pub unmetIn : State → ℕ → Option Condition
-  unmetIn S k = unmet (closed m S) (conditions (ruleOf m k .P) (ruleOf m k .N))
+  -- this is the rule's first unmet condition in the state, or it is none and the rule can fire
+  abbrev pub MetBy : State → Rule → Option Condition → Type 0
+  MetBy S r = Met (closed m S) (S .names) (r .P) (r .N) (r .names)
+
+  -- What unmetOf computes is that.
+  pub unmetOf-is : (S : State) (r : Rule) → MetBy S r (unmetOf m S r)
+  unfolding unmetOf
+  unmetOf-is S r = unmet-is (closed m S) (S .names) (r .P) (r .N) (r .names)
 
   -- A rule of the model whose conditions are met leads on.
-  pub fires : (k : ℕ) (S : State) → k < length (m .rules) → Meets (closed m S) (ruleOf m k .P) (ruleOf m k .N)
+  pub fires : (k : ℕ) (S : State) → k < length (m .rules) → MetBy S (ruleOf m k) none
       → Transition m k S (afterRule m k S)
-  fires k S l u =
+  fires k S l (u, fresh) =
       let next = after-is (m .persistent) (ruleOf m k) S in
-      record { rule = l; closure = closed m S; isHC = closed-is S; meets = u; next = next }
+      record { rule = l; closure = closed m S; isHC = closed-is S; meets = u; fresh = fresh; next = next }
 
   -- after n of the steps, in S: they are all, or a condition of the next one is the first that is unmet
   abbrev Stops : List ℕ → ℕ → State → Option Condition → Type 0
   Stops ks n S none = n ≡ length ks
-  Stops ks n S (some c) =
-      (n < length ks) × FirstUnmet (closed m S) (ruleOf m (getD ks n 0) .P) (ruleOf m (getD ks n 0) .N) c
+  Stops ks n S (some c) = (n < length ks) × FirstUnmetOf (closed m S) S (ruleOf m (getD ks n 0)) c
 
   -- So they stop with one step more before.
   stops-onward : (k n : ℕ) (ks : List ℕ) (S : State) (u : Option Condition) → Stops ks n S u
@@ -95,10 +111,10 @@ module _ (m : Model) where
   unfolding reach stays onward roundsOn
   reach-leads [] h S = (here, zero-add _, refl)
   reach-leads (k ∷ ks) h S =
-      go (unmetIn S k) refl (unmet-is (closed m S) (ruleOf m k .P) (ruleOf m k .N))
+      go (unmetOf m S (ruleOf m k)) refl (unmetOf-is S (ruleOf m k))
       (reach-leads ks (λ j i. h j (List·Memᴰ·tail i)) (afterRule m k S))
     where
-      go : (u : Option Condition) → unmetIn S k ≡ u → Met (closed m S) (ruleOf m k .P) (ruleOf m k .N) u
+      go : (u : Option Condition) → unmetOf m S (ruleOf m k) ≡ u → MetBy S (ruleOf m k) u
           → Leads (afterRule m k S) ks (reach m (afterRule m k S) ks) → Leads S (k ∷ ks) (reach m S (k ∷ ks))
       go none i u (p, e, s) = rw (i, reach) (
         step (fires k S (h k (List·Memᴰ·head refl)) u) p,
@@ -114,14 +130,14 @@ module _ (m : Model) (g : ℕ) where
   unfolding outcomeOf ending asked
   ends-so l ks n e S (some c) (s, u) = blocked c refl s (closed m S) (closed-is m S) u
   ends-so l ks n e S none s =
-      go (unmet (closed m S) (conditions (goalOf m g .P) (goalOf m g .N))) refl
-      (unmet-is (closed m S) (goalOf m g .P) (goalOf m g .N))
+      go (unmet (closed m S) (S .names) (conditions (goalOf m g .P) (goalOf m g .N) [])) refl
+      (unmet-is (closed m S) (S .names) (goalOf m g .P) (goalOf m g .N) [])
     where
-      go : (u : Option Condition) → unmet (closed m S) (conditions (goalOf m g .P) (goalOf m g .N)) ≡ u
-          → Met (closed m S) (goalOf m g .P) (goalOf m g .N) u
+      go : (u : Option Condition) → unmet (closed m S) (S .names) (conditions (goalOf m g .P) (goalOf m g .N) []) ≡ u
+          → Met (closed m S) (S .names) (goalOf m g .P) (goalOf m g .N) [] u
           → EndsSo m g ks (outcomeOf m g (record { fired = n; earlier = e; state = S; stop = none }))
       go none i u =
-          attack (rw (i, asked)) s (record { goal = l; closure = closed m S; isHC = closed-is m S; meets = u })
+          attack (rw (i, asked)) s (record { goal = l; closure = closed m S; isHC = closed-is m S; meets = u .0 })
       go (some c) i u = notMet c (rw (i, asked)) s (closed m S) (closed-is m S) u
 
   -- The run's outcome from a state is the one there, if the model has the attack state and the rules.

@@ -3,42 +3,50 @@ use Prim.Native.Nat.{ℕ, _+_, _≤_, _<_}
 use native.Mathlib.Nat.{zero-add, add-zero, add-assoc}
 use native.Mathlib.Omega.{arith}
 use mathlib.Core.Path.{_≡_, refl, sym, _∙_, ap, subst, fun-ext}
-use mathlib.Core.Logic.{inl, inr}
+use mathlib.Core.Logic.{_↔_, inl, inr}
 use mathlib.Core.List.{List, [], _∷_, _++_, append-nil, List·Memᴰ·cases-cons, List·Memᴰ·not-nil}
 use mathlib.Core.Option.{Option, none, some}
+use lib.Dec.{T}
 use lib.ListN.{length, take, drop, take-append-drop}
 use lib.Seq.{take-length, length-take-le}
 use Rattle.sets.specs.Sets.{Facts, size, _∈_}
 use Rattle.meaning.specs.Model.{Rule, Model, Trace, State, ruleOf, goalOf}
 use Rattle.meaning.specs.Rounds.{rounds}
-use Rattle.meaning.specs.Run.{Condition, conditions, unmet, Reached, stays, onward, reach}
+use Rattle.meaning.specs.Run.{Condition, conditions, unmet, unmetOf, Reached, stays, onward, reach}
 use Rattle.meaning.specs.Run.{Ending, asked, ending, Outcome, outcomeOf}
-use Rattle.meaning.specs.Published.{HC, Next, Transition, Path, TrueAttack}
+use Rattle.meaning.specs.Published.{HC, Fresh, Next, Transition, Path, TrueAttack}
 use Rattle.meaning.specs.Published.Path.{here, step}
 use Rattle.meaning.specs.Promises.{roundsOn, IsOutcomeFrom, IsOutcome}
 use Rattle.meaning.specs.Promises.EndsSo.{attack, blocked, notMet}
 use Rattle.sets.proofs.Laws.{same-test}
 use Rattle.meaning.proofs.Closing.{HC-unique}
 use Rattle.meaning.proofs.Meeting.{Met, unmet-from}
-use Rattle.meaning.proofs.Reaching.{afterRule, after-is, closed, closed-is, unmetIn}
+use Rattle.meaning.proofs.Reaching.{afterRule, after-is, closed, closed-is}
 use Rattle.meaning.proofs.Runs.{ahead, ahead-none, onward-ahead, reach-fires, step-stops, steps-end}
 
 -- The state after a rule is one state.
 next-unique : (kept : List ℕ) (r : Rule) (S : State) {X Y : State} → Next kept r S X → Next kept r S Y → X ≡ Y
-unfolding Next
-next-unique kept r S x y =
-    ap (λ (X : Facts). record { facts = X })
-    (fun-ext (λ f. same-test (λ t. y f .1 (x f .0 t)) (λ t. x f .1 (y f .0 t))))
+next-unique kept r S {X} {Y} x y =
+    let facts = same-set (X .facts) (Y .facts) _ (x .facts) (y .facts) in
+    let names = same-set (X .names) (Y .names) _ (x .names) (y .names) in
+    λ i. record { facts = facts i; names = names i }
+  where
+    same-set : (X Y : Facts) (C : ℕ → Type 0) → ((n : ℕ) → T (X n) ↔ C n) → ((n : ℕ) → T (Y n) ↔ C n) → X ≡ Y
+    same-set X Y C x y = fun-ext (λ n. same-test (λ t. y n .1 (x n .0 t)) (λ t. x n .1 (y n .0 t)))
 
 -- The first unmet condition on any HC of the state is the one on the closure.
-on-closure : (m : Model) {S : State} {X : Facts} (P N : List ℕ) (u : Option Condition)
-    → HC (m .clauses) (S .facts) X → Met X P N u → unmet (closed m S) (conditions P N) ≡ u
-on-closure m {S} {X} P N u h k = rw (← fun-ext (HC-unique h (closed-is m S))) (unmet-from X P N u k)
+on-closure : (m : Model) (S : State) {X : Facts} (P N names : List ℕ) (u : Option Condition)
+    → HC (m .clauses) (S .facts) X → Met X (S .names) P N names u
+    → unmet (closed m S) (S .names) (conditions P N names) ≡ u
+on-closure m S {X} P N names u h k =
+    rw (← fun-ext (HC-unique h (closed-is m S))) (unmet-from X (S .names) P N names u k)
 
 module _ {m : Model} where
   -- Where a rule leads on, no condition of it is unmet.
-  pub fired-met : {k : ℕ} {S S' : State} → Transition m k S S' → unmetIn m S k ≡ none
-  fired-met {k} t = on-closure m (ruleOf m k .P) (ruleOf m k .N) none (t .isHC) (t .meets)
+  pub fired-met : {k : ℕ} {S S' : State} → Transition m k S S' → unmetOf m S (ruleOf m k) ≡ none
+  unfolding unmetOf
+  fired-met {k} {S} t =
+      let r = ruleOf m k in on-closure m S (r .P) (r .N) (r .names) none (t .isHC) (t .meets, t .fresh)
 
   -- It leads to the state after it.
   pub fired-after : {k : ℕ} {S S' : State} → Transition m k S S' → S' ≡ afterRule m k S
@@ -106,20 +114,21 @@ module _ {m : Model} {g : ℕ} {S : State} {ks : List ℕ} {o : Outcome} (j : Is
 
   -- An outcome from a state is the run's from there.
   pub is-run-from : o ≡ outcomeOf m g (reach m S ks)
-  unfolding ending asked
+  unfolding ending asked unmetOf
   is-run-from =
       let goal = goalOf m g in
       let rest = steps-end m (o .state) ks (o .step) (reached none .earlier) in
       elim (j .ends) [
         | attack d s a ↦
-            same-run none (run-split (omega arith) ∙ rest (omega arith))
-            (d ∙ sym (rw (on-closure m (goal .P) (goal .N) none (a .isHC) (a .meets), asked)))
+            let fresh : Fresh (o .state .names) [] = λ n i. absurd (List·Memᴰ·not-nil i) in
+            let met = on-closure m (o .state) (goal .P) (goal .N) [] none (a .isHC) (a .meets, fresh) in
+            same-run none (run-split (omega arith) ∙ rest (omega arith)) (d ∙ sym (rw (met, asked)))
         | blocked c d s X h u ↦
-            let stop = step-stops m (o .state) ks (o .step) _ s (on-closure m _ _ (some c) h u) in
+            let stop = step-stops m (o .state) ks (o .step) _ s (on-closure m (o .state) _ _ _ (some c) h u) in
             same-run (some c) (run-split (omega arith) ∙ stop) d
         | notMet c d s X h u ↦
             same-run none (run-split (omega arith) ∙ rest (omega arith))
-            (d ∙ sym (rw (on-closure m (goal .P) (goal .N) (some c) h u, asked)))
+            (d ∙ sym (rw (on-closure m (o .state) (goal .P) (goal .N) [] (some c) h u, asked)))
       ]
 
 -- A true attack has an outcome: accepted, with the sum of rounds over its states.

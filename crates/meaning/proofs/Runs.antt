@@ -4,21 +4,21 @@ use native.Mathlib.Nat.{zero-add, add-zero, add-suc, suc-add, add-assoc, add-sub
 use native.Mathlib.Numerals.{add-one}
 use native.Mathlib.Omega.{arith}
 use mathlib.Core.Path.{_≡_, refl, sym, _∙_, ap}
-use mathlib.Core.Logic.{inl, inr}
+use mathlib.Core.Logic.{_⊎_, inl, inr}
 use mathlib.Core.Bool.{Bool, true, false}
-use mathlib.Core.List.{List, [], _∷_, map, List·Memᴰ·head, List·Memᴰ·tail}
+use mathlib.Core.List.{List, [], _∷_, _++_, map, append-assoc, List·Memᴰ·head, List·Memᴰ·tail}
 use mathlib.Core.Option.{Option, none, some}
+use lib.Dec.{T}
 use lib.ListN.{length, getD, drop, drop-of-length-le, length-append, length-map, List·getD-append}
 use lib.Seq.{drop-cons, getD-append-add}
 use Rattle.sets.specs.Sets.{Facts, listed, _∈_}
-use Rattle.meaning.specs.Model.{Rule, Model, Trace, State, ruleOf, start}
+use Rattle.meaning.specs.Model.{Model, Trace, State, ruleOf, start}
 use Rattle.meaning.specs.Rounds.{rounds}
-use Rattle.meaning.specs.Run.{Condition, conditions, find, after}
+use Rattle.meaning.specs.Run.{Condition, conditions, find, unmetOf}
 use Rattle.meaning.specs.Run.{Reached, stays, onward, reach, outcomeOf, run}
-use Rattle.meaning.specs.Run.Condition.{positive, negative}
-use Rattle.meaning.specs.Published.{Next}
+use Rattle.meaning.specs.Run.Condition.{positive, negative, unused}
 use Rattle.sets.proofs.Laws.{is-false, fails, by-test, listed-is}
-use Rattle.meaning.proofs.Reaching.{afterRule, after-is, unmetIn}
+use Rattle.meaning.proofs.Reaching.{afterRule, after-is}
 
 -- ---- the steps, from one of their states on
 
@@ -49,14 +49,14 @@ ahead-stays i n S c = rw (add-zero i, add-zero n)
 
 module _ (m : Model) where
   -- A rule with no condition unmet fires.
-  pub reach-fires : (S : State) (k : ℕ) (ks : List ℕ) → unmetIn m S k ≡ none
+  pub reach-fires : (S : State) (k : ℕ) (ks : List ℕ) → unmetOf m S (ruleOf m k) ≡ none
       → reach m S (k ∷ ks) ≡ onward (rounds (m .clauses) (S .facts)) (reach m (afterRule m k S) ks)
   unfolding reach
   reach-fires S k ks e = rw (e, reach)
 
   module _ (S : State) (ks : List ℕ) (i n : ℕ) where
     -- Where all conditions of step i are met it fires.
-    pub step-fires : i < length ks → unmetIn m S (getD ks i 0) ≡ none
+    pub step-fires : i < length ks → unmetOf m S (ruleOf m (getD ks i 0)) ≡ none
         → ahead i n (reach m S (drop i ks))
         ≡ ahead (i + 1) (n + rounds (m .clauses) (S .facts))
         (reach m (afterRule m (getD ks i 0) S) (drop (i + 1) ks))
@@ -64,7 +64,7 @@ module _ (m : Model) where
         rw (drop-cons ks i 0 h, reach-fires S (getD ks i 0) (drop (suc i) ks) e, ahead-onward i n, add-one i)
 
     -- A condition that is unmet stops the run at step i.
-    pub step-stops : i < length ks → {c : Condition} → unmetIn m S (getD ks i 0) ≡ some c
+    pub step-stops : i < length ks → {c : Condition} → unmetOf m S (ruleOf m (getD ks i 0)) ≡ some c
         → ahead i n (reach m S (drop i ks)) ≡ record { fired = i; earlier = n; state = S; stop = some c }
     unfolding reach
     step-stops h {c} e = rw (drop-cons ks i 0 h, e, reach) (ahead-stays i n S (some c))
@@ -86,35 +86,49 @@ pub listed-below : (F : ℕ) (xs : List ℕ) → ((f : ℕ) → f ∈ xs → f <
 unfolding Below
 listed-below F xs h f l = is-false (λ i. omega (arith, h f (listed-is xs f .0 i)))
 
--- A rule that adds facts below F leaves a state below F.
-pub after-below : (F : ℕ) (kept : List ℕ) (r : Rule) (S : State) → ((f : ℕ) → f ∈ r .A → f < F)
-    → Below F (S .facts) → Below F (after kept r S .facts)
-unfolding Below Next
-after-below F kept r S h s f l = is-false (λ t. elim (after-is kept r S f .0 t) [
-  | inl k ↦ fails (s f l) (k .0)
-  | inr m ↦ omega (arith, h f m)
-])
+-- A set with nothing but what another had and a list below F adds is below F.
+grown-below : (F : ℕ) (X Y : Facts) (xs : List ℕ) → ((f : ℕ) → T (Y f) → T (X f) ⊎ (f ∈ xs))
+    → ((f : ℕ) → f ∈ xs → f < F) → Below F X → Below F Y
+unfolding Below
+grown-below F X Y xs grown h s f l =
+    is-false (λ t. elim (grown f t) [ inl k ↦ fails (s f l) k | inr m ↦ omega (arith, h f m) ])
 
--- The last state that is reached from one below F is below F, if all rules add facts below F.
-pub reach-below : (m : Model) (F : ℕ) → ((k f : ℕ) → f ∈ ruleOf m k .A → f < F)
-    → (S : State) (ks : List ℕ) → Below F (S .facts) → Below F (reach m S ks .state .facts)
+-- What every rule keeps true of the state is true of the last state that is reached.
+reach-keeps : (m : Model) (Q : State → Type 0) → ((k : ℕ) (S : State) → Q S → Q (afterRule m k S))
+    → (S : State) (ks : List ℕ) → Q S → Q (reach m S ks .state)
 unfolding reach stays onward
-reach-below m F h S [] s = s
-reach-below m F h S (k ∷ ks) s =
-    let S' = afterRule m k S in
-    go (unmetIn m S k) refl (reach-below m F h S' ks (after-below F (m .persistent) (ruleOf m k) S (h k) s))
+reach-keeps m Q h S [] q = q
+reach-keeps m Q h S (k ∷ ks) q =
+    go (unmetOf m S (ruleOf m k)) refl (reach-keeps m Q h (afterRule m k S) ks (h k S q))
   where
-    go : (u : Option Condition) → unmetIn m S k ≡ u
-        → Below F (reach m (afterRule m k S) ks .state .facts)
-        → Below F (reach m S (k ∷ ks) .state .facts)
-    go none e b = rw (e, reach) b
-    go (some c) e b = rw (e, reach) s
+    go : (u : Option Condition) → unmetOf m S (ruleOf m k) ≡ u → Q (reach m (afterRule m k S) ks .state)
+        → Q (reach m S (k ∷ ks) .state)
+    go none e p = rw (e, reach) p
+    go (some c) e p = rw (e, reach) q
 
--- The last state of a run is below F, if the initial facts are too.
-pub run-below : (m : Model) (t : Trace) → ((f : ℕ) → f ∈ m .initial → f < m .F)
-    → ((k f : ℕ) → f ∈ ruleOf m k .A → f < m .F) → Below (m .F) (run m t .state .facts)
-unfolding run outcomeOf start
-run-below m t i h = reach-below m (m .F) h (start m) (t .steps) (listed-below (m .F) (m .initial) i)
+module _ (m : Model) (t : Trace) where
+  -- The last state of a run is below F, if the initial facts are and all rules add facts below F.
+  pub run-below : ((f : ℕ) → f ∈ m .initial → f < m .F) → ((k f : ℕ) → f ∈ ruleOf m k .A → f < m .F)
+      → Below (m .F) (run m t .state .facts)
+  unfolding run outcomeOf start
+  run-below i h =
+      reach-keeps m (λ S. Below (m .F) (S .facts))
+      (λ k S.
+      grown-below (m .F) (S .facts) _ (ruleOf m k .A)
+      (λ f u. elim (after-is (m .persistent) (ruleOf m k) S .facts f .0 u) [ inl s ↦ inl (s .0) | inr a ↦ inr a ])
+      (h k))
+      (start m) (t .steps) (listed-below (m .F) (m .initial) i)
+
+  -- Its names are below a limit, if those in use at the start are and all rules make names below it.
+  pub names-below : (limit : ℕ) → ((n : ℕ) → n ∈ m .names → n < limit)
+      → ((k n : ℕ) → n ∈ ruleOf m k .names → n < limit) → Below limit (run m t .state .names)
+  unfolding run outcomeOf start
+  names-below limit i h =
+      reach-keeps m (λ S. Below limit (S .names))
+      (λ k S.
+      grown-below limit (S .names) _ (ruleOf m k .names) (λ n. after-is (m .persistent) (ruleOf m k) S .names n .0)
+      (h k))
+      (start m) (t .steps) (listed-below limit (m .names) i)
 
 -- ---- conditions by their index
 
@@ -150,23 +164,43 @@ image-at g [] i d h = absurd (omega arith)
 image-at g (x ∷ xs) zero d h = refl
 image-at g (x ∷ xs) (suc i) d h = image-at g xs i d (omega arith)
 
-module _ (P N : List ℕ) where
-  -- There are as many conditions as entries of P and N.
-  pub length-conditions : length (conditions P N) ≡ length P + length N
+-- What stands after a list stands so much later.
+back-at {ℓ} : {A : Type ℓ} (xs ys : List A) (i : ℕ) (d : A) → length xs ≤ i
+    → getD (xs ++ ys) i d ≡ getD ys (i - length xs) d
+back-at xs ys i d h =
+    ap (λ j. getD (xs ++ ys) j d) (sym (add-sub-of-le h)) ∙ getD-append-add xs ys (i - length xs) d
+
+module _ (P N names : List ℕ) where
+  -- There are as many conditions as entries of P, N and the names.
+  pub length-conditions : length (conditions P N names) ≡ length P + length N + length names
   unfolding conditions
   length-conditions = simp (length-append, length-map)
 
-  -- The first ones are those of P.
-  pub positive-at : (i : ℕ) (d : Condition) → i < length P → getD (conditions P N) i d ≡ positive (getD P i 0)
-  unfolding conditions
-  positive-at i d h =
-      List·getD-append (map positive P) (map negative N) d i (rw (length-map P positive) h) ∙ image-at positive P i d h
+  module _ (i : ℕ) (d : Condition) where
+    -- The first ones are those of P.
+    pub positive-at : i < length P → getD (conditions P N names) i d ≡ positive (getD P i 0)
+    unfolding conditions
+    positive-at h =
+        rw append-assoc
+        (List·getD-append (map positive P) _ d i (rw (length-map P positive) h) ∙ image-at positive P i d h)
 
-  -- After them come those of N.
-  pub negative-at : (i : ℕ) (d : Condition) → length P ≤ i → i < length P + length N
-      → getD (conditions P N) i d ≡ negative (getD N (i - length P) 0)
-  unfolding conditions
-  negative-at i d h l =
-      let e : length (map positive P) + (i - length P) ≡ i = rw (length-map P positive) (add-sub-of-le h) in
-      ap (λ j. getD (conditions P N) j d) (sym e) ∙ getD-append-add (map positive P) (map negative N) (i - length P) d
-      ∙ image-at negative N (i - length P) d (omega arith)
+    -- After them come those of N.
+    pub negative-at : length P ≤ i → i < length P + length N
+        → getD (conditions P N names) i d ≡ negative (getD N (i - length P) 0)
+    unfolding conditions
+    negative-at h l =
+        let after : length (map positive P) ≤ i = rw (length-map P positive) h in
+        rw (append-assoc, back-at (map positive P), length-map P positive)
+        (List·getD-append (map negative N) _ d (i - length P) (rw (length-map N negative) (omega arith))
+        ∙ image-at negative N (i - length P) d (omega arith))
+
+    -- At last come the names.
+    pub unused-at : length P + length N ≤ i → i < length P + length N + length names
+        → getD (conditions P N names) i d ≡ unused (getD names (i - (length P + length N)) 0)
+    unfolding conditions
+    unused-at h l =
+        let before = map positive P ++ map negative N in
+        let size : length before ≡ length P + length N = simp (length-append, length-map) in
+        back-at before (map unused names) i d (rw size h)
+        ∙ ap (λ j. getD (map unused names) (i - j) d) size
+        ∙ image-at unused names (i - (length P + length N)) d (omega arith)

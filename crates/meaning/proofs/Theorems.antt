@@ -1,27 +1,30 @@
 -- What demands 2 and 3 promise (specs/Promises), proved: each theorem in one place, the work in the files beside this
 -- one.
-use Prim.Native.Nat.{ℕ, _+_, _≤_, _<_}
+use Prim.Native.Nat.{ℕ, zero, suc, _+_, _≤_, _<_}
 use native.Mathlib.Numerals.{add-one}
 use native.Mathlib.Omega.{arith}
 use mathlib.Core.Path.{_≡_, refl, sym, _∙_, ap}
 use mathlib.Core.Logic.{_↔_, _⊎_, inl, inr}
 use mathlib.Core.Bool.{Bool, true, false, not, _&&_, _||_}
-use mathlib.Core.List.{List, [], _∷_, _++_, List·Memᴰ·not-nil}
+use mathlib.Core.List.{List, [], _∷_, _++_, List·Memᴰ·head, List·Memᴰ·not-nil, Memᴰ·append-right}
 use mathlib.Core.Option.{none, some}
 use lib.Dec.{T, eqb, ltb, ltb→lt, lt→ltb}
-use lib.ListN.{length, take}
+use lib.ListN.{length, getD, take, List·getD-eq-default}
 use Rattle.sets.specs.Sets.{Facts, any, every, listed, _∈_}
 use Rattle.meaning.specs.Model.{Clause, Rule, Model, Trace, State, ruleOf, goalOf, start}
 use Rattle.meaning.specs.Rounds.{round, rounds, closure, roundNumber, missingHeads}
-use Rattle.meaning.specs.Run.{conditions, find, unmet, after, Ending, Outcome, run, named}
-use Rattle.meaning.specs.Run.Condition.{positive, negative}
-use Rattle.meaning.specs.Published.{HC, Next, Transition, Path, AttackMet, TrueAttack}
-use Rattle.meaning.specs.Promises.{IsRounds, AreMissingHeads, IsRoundNumber, roundsOn, IsOutcome}
-use Rattle.meaning.specs.Promises.FirstUnmet.{absent, present}
+use Rattle.meaning.specs.Run.{conditions, find, unmet, unmetOf, after, Ending, Outcome, run, named}
+use Rattle.meaning.specs.Run.Condition.{positive, negative, unused}
+use Rattle.meaning.specs.Published.{HC, Meets, Fresh, Transition, Path, AttackMet, TrueAttack}
+use Rattle.meaning.specs.Published.Path.{here, step}
+use Rattle.meaning.specs.Promises.{IsRounds, AreMissingHeads, IsRoundNumber, Makes, Nameless, roundsOn, IsOutcome}
+use Rattle.meaning.specs.Promises.EndsSo.{attack, blocked, notMet}
+use Rattle.meaning.specs.Promises.FirstUnmet.{absent, present, inUse}
 use Rattle.sets.proofs.Laws.{passes, fails, by-test, both, every-in, every-intro, one-number}
+use Rattle.sets.proofs.Laws.{below-or-from, getD-in, listed-is}
 use Rattle.meaning.proofs.Closing
-use Rattle.meaning.proofs.Meeting.{unmet-none, unmet-some, first-absent, first-present}
-use Rattle.meaning.proofs.Reaching.{afterRule, after-is, fires, run-is-from}
+use Rattle.meaning.proofs.Meeting.{unmet-none, unmet-some, first-absent, first-present, first-used}
+use Rattle.meaning.proofs.Reaching.{afterRule, after-is, unmetOf-is, fires, run-is-from}
 use Rattle.meaning.proofs.Running.{fired-met, fired-after, is-run-from, path-sum, path-rules}
 use Rattle.meaning.proofs.Running.{attack-outcome, outcome-attack}
 
@@ -163,23 +166,19 @@ module _ (persistent : List ℕ) (r : Rule) (S : State) (f : ℕ) where
   -- A fact stored after a rule was stored before or is one that the rule adds: derived facts are never carried over,
   -- persistent or not.
   pub never-carried : T (after persistent r S .facts f) → T (S .facts f) ⊎ (f ∈ r .A)
-  unfolding Next
-  never-carried t = elim (after-is persistent r S f .0 t) [ inl k ↦ inl (k .0) | inr a ↦ inr a ]
+  never-carried t = elim (after-is persistent r S .facts f .0 t) [ inl k ↦ inl (k .0) | inr a ↦ inr a ]
 
   -- A fact that a rule adds is stored after it, though the rule may remove it too.
   pub added-stored : f ∈ r .A → T (after persistent r S .facts f)
-  unfolding Next
-  added-stored a = after-is persistent r S f .1 (inr a)
+  added-stored a = after-is persistent r S .facts f .1 (inr a)
 
   -- "all persistent predicates of S are still contained in S'"
   pub persistent-stays : f ∈ persistent → T (S .facts f) → T (after persistent r S .facts f)
-  unfolding Next
-  persistent-stays k s = after-is persistent r S f .1 (inl (s, λ m. k))
+  persistent-stays k s = after-is persistent r S .facts f .1 (inl (s, λ m. k))
 
   -- A fact of P that is neither persistent nor added is gone.
   pub removed : f ∈ r .P → (f ∈ persistent → ⊥) → (f ∈ r .A → ⊥) → T (after persistent r S .facts f) → ⊥
-  unfolding Next
-  removed p k a t = elim (after-is persistent r S f .0 t) [ inl (s, h) ↦ k (h p) | inr m ↦ a m ]
+  removed p k a t = elim (after-is persistent r S .facts f .0 t) [ inl (s, h) ↦ k (h p) | inr m ↦ a m ]
 
 -- Where no fact is persistent: "The next state is (S without P) together with A."
 pub nothing-persistent : (r : Rule) (S : State) (f : ℕ)
@@ -191,14 +190,12 @@ nothing-persistent r S f = rw (all-of (any (eqb f) (r .P)))
     all-of true = refl
     all-of false = refl
 
--- A rule of the model fires exactly if every fact of P and no fact of N is in the closure.
+-- A rule of the model fires exactly if every fact of P and no fact of N is in the closure, and all its names are
+-- unused.
 pub fires-exactly : (m : Model) (k : ℕ) (S : State) → k < length (m .rules)
-    → ((S' : State) × Transition m k S S')
-    ↔ (unmet (closure (m .clauses) (S .facts)) (conditions (ruleOf m k .P) (ruleOf m k .N)) ≡ none)
-fires-exactly m k S l = (
-  λ (S', t). fired-met t,
-  λ e. (afterRule m k S, fires m k S l (unmet-none _ (ruleOf m k .P) (ruleOf m k .N) .0 e)),
-)
+    → ((S' : State) × Transition m k S S') ↔ (unmetOf m S (ruleOf m k) ≡ none)
+fires-exactly m k S l =
+    (λ (S', t). fired-met t, λ e. (afterRule m k S, fires m k S l (rw e at (unmetOf-is m S (ruleOf m k)))))
 
 -- It leads to the state after it and to no other.
 pub fires-once : {m : Model} {k : ℕ} {S S' : State} → Transition m k S S' → S' ≡ afterRule m k S
@@ -210,37 +207,136 @@ pub never-fires : {m : Model} {k : ℕ} {S S' : State} (f : ℕ) → f ∈ ruleO
 never-fires f p n t = t .meets .negative f n (t .meets .positive f p)
 
 -- With a fact in both P and N some condition is always unmet.
-pub never-met : (X : Facts) (P N : List ℕ) (f : ℕ) → f ∈ P → f ∈ N → unmet X (conditions P N) ≡ none → ⊥
-never-met X P N f p n e = let h = unmet-none X P N .0 e in h .negative f n (h .positive f p)
+pub never-met : (X used : Facts) (P N names : List ℕ) (f : ℕ) → f ∈ P → f ∈ N
+    → unmet X used (conditions P N names) ≡ none → ⊥
+never-met X used P N names f p n e =
+    let (h, _) = unmet-none X used P N names .0 e in h .negative f n (h .positive f p)
 
 -- With no conditions none is unmet.
-pub no-conditions : (X : Facts) → unmet X (conditions [] []) ≡ none
+pub no-conditions : (X used : Facts) → unmet X used (conditions [] [] []) ≡ none
 unfolding unmet conditions find
-no-conditions X = refl
+no-conditions X used = refl
 
 -- An attack state with both lists empty is met in every state.
 pub always-met : (m : Model) (g : ℕ) → g < length (m .goals) → goalOf m g .P ≡ [] → goalOf m g .N ≡ []
     → (S : State) → AttackMet m g S
-always-met m g l p n S = record {
-  goal = l;
-  closure = closure (m .clauses) (S .facts);
-  isHC = closure-is-HC (m .clauses) (S .facts);
-  meets = unmet-none _ (goalOf m g .P) (goalOf m g .N) .0 (rw (p, n) (no-conditions _));
-}
+always-met m g l p n S =
+    let X = closure (m .clauses) (S .facts) in
+    let met = unmet-none X (S .names) (goalOf m g .P) (goalOf m g .N) [] .0 (rw (p, n) (no-conditions X (S .names))) in
+    record { goal = l; closure = X; isHC = closure-is-HC (m .clauses) (S .facts); meets = met .0 }
 
--- The first unmet condition is a positive one exactly if its fact is the first of P that is outside the closure.
-pub kind-positive : (X : Facts) (P N : List ℕ) (f : ℕ) → (unmet X (conditions P N) ≡ some (positive f))
-    ↔ ((met rest : List ℕ) × (P ≡ met ++ f ∷ rest) × ((b : ℕ) → b ∈ met → T (X b)) × (T (X f) → ⊥))
-kind-positive X P N f = (
-  λ e. first-absent X P N (unmet-some X P N (positive f) .0 e),
-  λ (met, rest, e, h, n). unmet-some X P N (positive f) .1 (absent met rest e h n),
-)
+module _ (X used : Facts) (P N names : List ℕ) where
+  -- The first unmet condition is a positive one exactly if its fact is the first of P that is outside the closure.
+  pub kind-positive : (f : ℕ) → (unmet X used (conditions P N names) ≡ some (positive f))
+      ↔ ((met rest : List ℕ) × (P ≡ met ++ f ∷ rest) × ((b : ℕ) → b ∈ met → T (X b)) × (T (X f) → ⊥))
+  kind-positive f =
+      let is = unmet-some X used P N names (positive f) in
+      (λ e. first-absent X used P N names (is .0 e), λ (met, rest, e, h, n). is .1 (absent met rest e h n))
 
--- It is a negative one exactly if all of P is inside, and its fact is the first of N that is.
-pub kind-negative : (X : Facts) (P N : List ℕ) (f : ℕ) → (unmet X (conditions P N) ≡ some (negative f))
-    ↔ (((b : ℕ) → b ∈ P → T (X b)) × (met rest : List ℕ) × (N ≡ met ++ f ∷ rest)
-    × ((b : ℕ) → b ∈ met → T (X b) → ⊥) × T (X f))
-kind-negative X P N f = (
-  λ e. first-present X P N (unmet-some X P N (negative f) .0 e),
-  λ (h, met, rest, e, n, t). unmet-some X P N (negative f) .1 (present h met rest e n t),
-)
+  -- It is a negative one exactly if all of P is inside, and its fact is the first of N that is.
+  pub kind-negative : (f : ℕ) → (unmet X used (conditions P N names) ≡ some (negative f))
+      ↔ (((b : ℕ) → b ∈ P → T (X b)) × (met rest : List ℕ) × (N ≡ met ++ f ∷ rest)
+      × ((b : ℕ) → b ∈ met → T (X b) → ⊥) × T (X f))
+  kind-negative f =
+      let is = unmet-some X used P N names (negative f) in
+      (λ e. first-present X used P N names (is .0 e), λ (h, met, rest, e, n, t). is .1 (present h met rest e n t))
+
+  -- It is that of a name exactly if P and N are met, and the name is the first that is used.
+  pub kind-unused : (n : ℕ) → (unmet X used (conditions P N names) ≡ some (unused n))
+      ↔ (Meets X P N × (met rest : List ℕ) × (names ≡ met ++ n ∷ rest) × Fresh used met × T (used n))
+  kind-unused n =
+      let is = unmet-some X used P N names (unused n) in
+      (λ e. first-used X used P N names (is .0 e), λ (h, met, rest, e, k, t). is .1 (inUse h met rest e k t))
+
+-- ---- names (document 02, wish 9)
+
+-- A rule that makes a name in use never fires.
+pub used-never-fires : {m : Model} {k : ℕ} {S S' : State} (n : ℕ) → n ∈ ruleOf m k .names → T (S .names n)
+    → Transition m k S S' → ⊥
+used-never-fires n k s t = t .fresh n k s
+
+module _ {m : Model} where
+  -- On a path no step makes a name that was in use before it.
+  pub start-not-made : {S S' : State} {ks : List ℕ} → Path m S ks S' → {n : ℕ} → T (S .names n) → (i : ℕ)
+      → Makes m ks i n → ⊥
+  start-not-made here s i (l, k) = omega arith
+  start-not-made (step t p) {n} s zero (l, k) = t .fresh n k s
+  start-not-made (step t p) {n} s (suc i) (l, k) =
+      start-not-made p (t .next .names n .1 (inl s)) i (omega arith, k)
+
+  -- No two steps make the same name.
+  pub made-once : {S S' : State} {ks : List ℕ} → Path m S ks S' → {n i j : ℕ} → Makes m ks i n → Makes m ks j n → i ≡ j
+  made-once {ks = ks} p {n} = one-number (λ i. Makes m ks i n) (λ i j x y l. not-later p i j l x y)
+    where
+      not-later : {S S' : State} {ks : List ℕ} → Path m S ks S' → (i j : ℕ) → i < j → Makes m ks i n → Makes m ks j n
+          → ⊥
+      not-later here i j h (l, k) y = omega arith
+      not-later (step t p) zero zero h x y = omega arith
+      not-later (step t p) zero (suc j) h (l, k) (l', k') =
+          start-not-made p (t .next .names n .1 (inr k)) j (omega arith, k')
+      not-later (step t p) (suc i) zero h x y = omega arith
+      not-later (step t p) (suc i) (suc j) h (l, k) (l', k') =
+          not-later p i j (omega arith) (omega arith, k) (omega arith, k')
+
+  -- The names in use at the end are those in use before and those that the steps made: none is freed.
+  pub names-at-end : {S S' : State} {ks : List ℕ} → Path m S ks S' → (n : ℕ)
+      → T (S' .names n) ↔ (T (S .names n) ⊎ ((i : ℕ) × Makes m ks i n))
+  names-at-end here n = (λ s. inl s, elim [ inl s ↦ s | inr (i, (l, k)) ↦ absurd (omega arith) ])
+  names-at-end (step {k = k} {ks = ks} {S' = next} t p) n =
+      let rest = names-at-end p n in
+      let here = t .next .names n in (
+        λ s. elim (rest .0 s) [
+          | inl s ↦ elim (here .0 s) [ inl s ↦ inl s | inr h ↦ inr (0, (omega arith, h)) ]
+          | inr (i, (l, h)) ↦ inr (suc i, (omega arith, h))
+        ],
+        elim [ inl s ↦ rest .1 (inl (here .1 (inl s))) | inr (i, made) ↦ rest .1 (later i made) ],
+      )
+    where
+      later : (i : ℕ) → Makes m (k ∷ ks) i n → T (next .names n) ⊎ ((i : ℕ) × Makes m ks i n)
+      later zero (l, h) = inl (t .next .names n .1 (inr h))
+      later (suc i) (l, h) = inr (i, (omega arith, h))
+
+  -- So names only grow.
+  pub names-grow : {S S' : State} {ks : List ℕ} → Path m S ks S' → (n : ℕ) → T (S .names n) → T (S' .names n)
+  names-grow p n s = names-at-end p n .1 (inl s)
+
+-- The names in use where a run ends are those in use at the start and those that the steps fired have made.
+pub names-left : {m : Model} {t : Trace} {o : Outcome} → IsOutcome m t o → (n : ℕ)
+    → T (o .state .names n) ↔ ((n ∈ m .names) ⊎ ((i : ℕ) × Makes m (take (o .step) (t .steps)) i n))
+unfolding start
+names-left {m} j n =
+    let at = names-at-end (j .path) n in
+    let first = listed-is (m .names) n in (
+      λ s. elim (at .0 s) [ inl h ↦ inl (first .0 h) | inr h ↦ inr h ],
+      λ s. at .1 (elim s [ inl h ↦ inl (first .1 h) | inr h ↦ inr h ]),
+    )
+
+-- of a model without names
+module _ {m : Model} (w : Nameless m) where
+  -- No rule of it makes one.
+  none-made : (k n : ℕ) → n ∈ ruleOf m k .names → ⊥
+  unfolding ruleOf
+  none-made k n i =
+      elim (below-or-from k (length (m .rules))) [
+        | inl l ↦ List·Memᴰ·not-nil (rw (w .rules (ruleOf m k) (getD-in (m .rules) k _ l)) at i)
+        | inr l ↦ List·Memᴰ·not-nil (rw (List·getD-eq-default (m .rules) _ l) at i)
+      ]
+
+  module _ {t : Trace} {o : Outcome} (j : IsOutcome m t o) where
+    -- No name is ever in use.
+    pub nameless-empty : (n : ℕ) → T (o .state .names n) → ⊥
+    nameless-empty n s = elim (names-left j n .0 s) [
+      | inl h ↦ List·Memᴰ·not-nil (rw (w .start) at h)
+      | inr (i, (l, k)) ↦ none-made _ n k
+    ]
+
+    -- No step is blocked for a name.
+    pub nameless-not-used : (n : ℕ) → o .ending ≡ Ending.blocked (unused n) → ⊥
+    nameless-not-used n z = elim (j .ends) [
+      | attack d s a ↦ let n : _≡_ {A = ℕ} 0 1 = cc in omega arith
+      | blocked c d s X h u ↦
+          let is : c ≡ unused n = cc in
+          let (_, before, rest, e, _, _) = first-used X _ _ _ _ (rw is at u) in
+          none-made (getD (t .steps) (o .step) 0) n (rw e (Memᴰ·append-right before (List·Memᴰ·head refl)))
+      | notMet c d s X h u ↦ let n : _≡_ {A = ℕ} 0 1 = cc in omega arith
+    ]

@@ -46,6 +46,15 @@ pub data FirstUnmet (X used : Facts) (P N names : List ℕ) : Condition → Type
 abbrev pub FirstUnmetOf : Facts → State → Rule → Condition → Type 0
 FirstUnmetOf X S r = FirstUnmet X (S .names) (r .P) (r .N) (r .names)
 
+-- step i of the list is there, and its rule makes the name n
+abbrev pub Makes : Model → List ℕ → ℕ → ℕ → Type 0
+Makes m ks i n = (i < length ks) × (n ∈ ruleOf m (getD ks i 0) .names)
+
+-- "Versions 1 and 2 have none.": no names, neither at the start nor in a rule
+pub record Nameless (m : Model) : Type 0 where
+  pub start : m .names ≡ []
+  pub rules : (r : Rule) → r ∈ m .rules → r .names ≡ []
+
 -- "the sum of the round counts of all states reached, the initial one included"
 unfoldable pub roundsOn : {m : Model} {S S' : State} {ks : List ℕ} → Path m S ks S' → ℕ
 unfolding rounds

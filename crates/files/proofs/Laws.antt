@@ -1,26 +1,34 @@
 -- What a judged model tells the crates above: its bounds, that its facts are below F, and that there is one answer.
 use Prim.Native.Nat.{ℕ, _≤_, _<_}
 use mathlib.Core.Path.{_≡_, refl, _∙_, sym, ap}
-use mathlib.Core.Bool.{true}
+use mathlib.Core.Bool.{Bool, true, false, cond}
+use mathlib.Core.Logic.{⊎-elim}
 use mathlib.Core.List.{List, [], List·Memᴰ·head, Memᴰ·of-map}
 use mathlib.Core.Option.{none}
 use native.Mathlib.Omega.{arith}
+use lib.Dec.{lit<}
 use lib.ListN.{length, getD, length-map}
+use borrow.Author.Tests.{lt-leb, le-leb}
 use Rattle.sets.specs.Sets.{_∈_}
+use Rattle.sets.proofs.Laws.{below-or-from}
 use Rattle.meaning.specs.Model.{Clause, Rule, Goal}
 use Rattle.records.specs.Words.{words, ascending}
-use Rattle.records.specs.Records.{records, listOf, most, judge, firstFault}
+use Rattle.records.specs.Records.{records, rows, listCount, listOf, most, judge, firstFault}
+use Rattle.records.proofs.Words.{even-length}
 use Rattle.lists.specs.Lists.{AllCut}
+use Rattle.records.specs.declared.Kind.{Kind}
 use Rattle.records.specs.declared.Kind.the-variants as kind
-use Rattle.lists.proofs.Laws.{clause-lists, judged-count, judged-facts, judged-cut}
-use Rattle.sections.specs.Sections.{reader}
-use Rattle.sections.specs.declared.Role.the-variants.{Sizes, Initial, Persistent, Clauses, Rules, Goals}
+use Rattle.lists.proofs.Laws.{clause-lists, judged-count, judged-cut}
+use Rattle.lists.proofs.Rows.{no-fourth, judged-facts}
+use Rattle.sections.specs.Sections.{ruleKind, reader}
+use Rattle.sections.specs.declared.Role.the-variants.{Sizes, Initial, Persistent, Names, Clauses, Rules, Goals}
 use Rattle.files.specs.Files.{sectionOf, factCount, clauseOf, ruleIn, goalIn, modelOf, shapeFault, modelFault}
+use Rattle.files.specs.Known.{KnownNames}
 use Rattle.files.specs.Answers.{countsOf, judged}
 use Rattle.files.specs.declared.Judged.{Judged}
-use Rattle.files.proofs.Roles.{one-lacks, section-absent}
+use Rattle.files.proofs.Roles.{one-lacks, names-lacking, section-absent}
 use Rattle.files.proofs.Shaped.{judged-section}
-use Rattle.files.proofs.Order.{all-fine, sizes-fine, bare-fine}
+use Rattle.files.proofs.Order.{all-fine, sizes-fine, bare-even, bare-fine}
 
 -- Two answers for a model that meet the contract of `judge_model` are equal.
 pub model-unique : (file : List ℕ) (x y : Judged) → x ≡ judged (modelFault file) (countsOf file)
@@ -37,6 +45,36 @@ persistent-in file e = ap words e
 pub none-persistent : (file : List ℕ) → getD file 0 0 ≡ 1 → modelOf file .persistent ≡ []
 unfolding modelOf words
 none-persistent file first = ap words (section-absent file Persistent (one-lacks file (omega arith)))
+
+-- A model of version 1 or 2 has no names,
+pub none-named : (file : List ℕ) → getD file 0 0 < 3 → modelOf file .names ≡ []
+unfolding modelOf words
+none-named file h = ap words (section-absent file Names (names-lacking file h))
+
+-- and its rules make none, as records
+pub makes-none : (version : ℕ) (r : List ℕ) → version < 3 → ruleIn version r .names ≡ []
+unfolding ruleIn ruleKind
+makes-none version r h =
+    ap (λ (b : Bool). listOf (cond b kind.Maker kind.Rule) r 3) (lt-leb 3 version h) ∙ no-fourth r
+
+-- and as rules.
+pub none-made : (file : List ℕ) → getD file 0 0 < 3 → (r : Rule) → r ∈ modelOf file .rules → r .names ≡ []
+unfolding modelOf
+none-made file h r member =
+    let (bytes, there, is) = Memᴰ·of-map (ruleIn (getD file 0 0)) (records (sectionOf file Rules)) member in
+    ap (λ (r : Rule). r .names) (sym is) ∙ makes-none (getD file 0 0) bytes h
+
+-- From version 3 on rules are makers.
+pub rules-make : (version : ℕ) → 3 ≤ version → ruleKind version ≡ kind.Maker
+unfolding ruleKind
+rules-make version h = rw (le-leb 3 version h)
+
+-- The rules of every version have three lists of facts.
+pub three-lists : (version j : ℕ) {K : Kind} → K ≡ ruleKind version → j < 3 → j < listCount K
+unfolding ruleKind listCount rows
+three-lists version j is h =
+    ⊎-elim (λ l. rw (is, lt-leb 3 version l) h) (λ l. rw (is, le-leb 3 version l) (omega arith))
+    (below-or-from version 3)
 
 -- every fact of the list is below F
 abbrev pub Below : ℕ → List ℕ → Type 0
@@ -57,20 +95,30 @@ module _ (file : List ℕ) (fine : shapeFault file ≡ none) where
   pub initial-below : Below (factCount file) (modelOf file .initial)
   unfolding modelOf reader
   initial-below =
-      bare-fine (factCount file) (sectionOf file Initial) (all-fine _ _ (judged-section file fine Initial)) .0
+      bare-fine false (factCount file) (sectionOf file Initial) (all-fine _ _ (judged-section file fine Initial)) .0
 
   -- The persistent facts are strictly ascending.
   pub persistent-ascending : ascending (words (sectionOf file Persistent)) ≡ true
   unfolding reader
   persistent-ascending =
-      bare-fine (factCount file) (sectionOf file Persistent) (all-fine _ _ (judged-section file fine Persistent)) .1
+      bare-fine false (factCount file) (sectionOf file Persistent) (all-fine _ _ (judged-section file fine Persistent)) .1
+
+  -- The names in use at the start are known.
+  pub names-known : KnownNames (sectionOf file Names)
+  unfolding reader
+  names-known =
+      let fine = all-fine _ _ (judged-section file fine Names) in
+      record {
+        below = bare-fine true 1024 (sectionOf file Names) fine .0;
+        even = even-length (sectionOf file Names) (bare-even true 1024 (sectionOf file Names) fine);
+      }
 
   -- No record of the clauses, of the rules and of the attack states is at fault.
   pub clauses-judged : firstFault (judge kind.Clause (factCount file)) (sectionOf file Clauses) ≡ none
   unfolding reader
   clauses-judged = judged-section file fine Clauses
 
-  pub rules-judged : firstFault (judge kind.Rule (factCount file)) (sectionOf file Rules) ≡ none
+  pub rules-judged : firstFault (judge (ruleKind (getD file 0 0)) (factCount file)) (sectionOf file Rules) ≡ none
   unfolding reader
   rules-judged = judged-section file fine Rules
 
@@ -83,8 +131,8 @@ module _ (file : List ℕ) (fine : shapeFault file ≡ none) where
   clauses-cut = judged-cut kind.Clause _ _ clauses-judged
 
   -- So do those of every rule's record.
-  pub rules-cut : AllCut kind.Rule (sectionOf file Rules)
-  rules-cut = judged-cut kind.Rule _ _ rules-judged
+  pub rules-cut : AllCut (ruleKind (getD file 0 0)) (sectionOf file Rules)
+  rules-cut = judged-cut (ruleKind (getD file 0 0)) _ _ rules-judged
 
   -- So do those of every attack state's record.
   pub goals-cut : AllCut kind.Goal (sectionOf file Goals)
@@ -103,7 +151,7 @@ module _ (file : List ℕ) (fine : shapeFault file ≡ none) where
       let (r, there, is) = Memᴰ·of-map clauseOf (records (sectionOf file Clauses)) member in
       let lists = clause-lists r (clauses-cut r there) in
       let facts = judged-facts kind.Clause _ _ clauses-judged r there in
-      rw (← is) (facts 0 _ (rw lists (List·Memᴰ·head refl)), λ f m. facts 1 f (rw lists m))
+      rw (← is) (facts 0 _ (lit< tt) (rw lists (List·Memᴰ·head refl)), λ f m. facts 1 f (lit< tt) (rw lists m))
 
   -- The facts of every rule's P, N and A are below F.
   pub rule-below : (r : Rule) → r ∈ modelOf file .rules
@@ -111,8 +159,8 @@ module _ (file : List ℕ) (fine : shapeFault file ≡ none) where
   unfolding modelOf ruleIn
   rule-below r member =
       let (bytes, there, is) = Memᴰ·of-map (ruleIn (getD file 0 0)) (records (sectionOf file Rules)) member in
-      let facts = judged-facts kind.Rule _ _ rules-judged bytes there in
-      rw (← is) (facts 0, facts 1, facts 2)
+      let facts = judged-facts (ruleKind (getD file 0 0)) _ _ rules-judged bytes there in
+      rw (← is) (λ f. facts 0 f (lit< tt), λ f. facts 1 f (lit< tt), λ f. facts 2 f (lit< tt))
 
   -- The facts of every attack state's P and N are below F.
   pub goal-below : (g : Goal) → g ∈ modelOf file .goals → Below (factCount file) (g .P) × Below (factCount file) (g .N)
@@ -120,4 +168,4 @@ module _ (file : List ℕ) (fine : shapeFault file ≡ none) where
   goal-below g member =
       let (bytes, there, is) = Memᴰ·of-map goalIn (records (sectionOf file Goals)) member in
       let facts = judged-facts kind.Goal _ _ goals-judged bytes there in
-      rw (← is) (facts 0, facts 1)
+      rw (← is) (λ f. facts 0 f (lit< tt), λ f. facts 1 f (lit< tt))

@@ -2,7 +2,7 @@
 -- the sizes and bare numbers are that have no fault.
 use Prim.Native.Nat.{ℕ, suc, _+_, _≤_, _<_}
 use mathlib.Core.Path.{_≡_, refl, _∙_, sym, ap}
-use mathlib.Core.Bool.{true, false, not, cond}
+use mathlib.Core.Bool.{Bool, true, false, not, _&&_, cond}
 use mathlib.Core.List.{List, _∷_}
 use mathlib.Core.Option.{Option, none, some, Option·some-ne-none}
 use native.Mathlib.Numerals.{add-one}
@@ -70,22 +70,23 @@ module _ (file : List ℕ) (F : ℕ) where
   unfolding rolesOf sectionAt notedFrom noted entries indexOf tag
   start-counts =
       counts-placed
-      ∙ by-version (λ rs. counted rs ≡ notedFrom rs file 1 (record { clauses = 0; rules = 0; goals = 0 })) refl refl
-      (getD file 0 0)
+      ∙ by-version (λ rs. counted rs ≡ notedFrom rs file 1 (record { clauses = 0; rules = 0; goals = 0 }))
+      refl refl refl (getD file 0 0)
 
   -- It starts with the sizes.
-  pub onward-start : (inSection (reader Sizes F) file 1 ≡ none → F ≡ factCount file)
+  pub onward-start : (inSection (reader (getD file 0 0) Sizes F) file 1 ≡ none → F ≡ factCount file)
       → Onward file F 0 1 (record { clauses = 0; rules = 0; goals = 0 })
   unfolding shapeFault faultFrom rolesOf roles sectionAt reader inSection
   onward-start told = record {
     fault =
-        by-facts (inSection (reader Sizes F) file 1) (λ k. faultFrom (drop 1 (rolesOf file)) k file (endAt file 1)) told;
+        by-facts (inSection (reader (getD file 0 0) Sizes F) file 1)
+        (λ k. faultFrom (drop 1 (rolesOf file)) k file (endAt file 1)) told;
     counts = start-counts;
   }
 
   module _ {i at : ℕ} {n : Counts} (on : Onward file F i at n) where
     module _ {r : Passed} (h : i < length (rolesOf file))
-        (is : r ≡ passed (inSection (reader (getD (rolesOf file) i Goals) F) file at) (endAt file at)
+        (is : r ≡ passed (inSection (reader (getD file 0 0) (getD (rolesOf file) i Goals) F) file at) (endAt file at)
         (entries (getD (rolesOf file) i Goals) (payload file at))) where
       here : drop i (rolesOf file) ≡ getD (rolesOf file) i Goals ∷ drop (suc i) (rolesOf file)
       here = drop-cons (rolesOf file) i Goals h
@@ -137,32 +138,33 @@ sizes-fine bytes e =
 
 -- Where the sizes are fine, their two bytes end at place 7 of the file.
 pub sizes-end : (F : ℕ) (file : List ℕ) (end : ℕ) → end ≡ cond (fits file 1) (endAt file 1) 0
-    → inSection (reader Sizes F) file 1 ≡ none → end ≡ 7
+    → inSection (reader (getD file 0 0) Sizes F) file 1 ≡ none → end ≡ 7
 unfolding reader
 sizes-end F file end found e =
-    let (fit, fine) = section-fine (reader Sizes F) file 1 e in
+    let (fit, fine) = section-fine (reader (getD file 0 0) Sizes F) file 1 e in
     let (two, small) = sizes-fine (payload file 1) (all-fine (sizes (payload file 1)) _ fine) in
     let ended = fit-end file 1 fit found in
     omega (arith, ended, ended-size file 1 _ ended)
 
 -- Bare numbers with no fault leave no byte over,
-pub bare-even : (F : ℕ) (bytes : List ℕ) → bare F bytes ≡ none → odd bytes ≡ false
+pub bare-even : (names : Bool) (limit : ℕ) (bytes : List ℕ) → bare names limit bytes ≡ none → odd bytes ≡ false
 unfolding bare
-bare-even F bytes e =
-    not-given _ _
-    (neither (given (odd bytes) 4)
-    (given (any (leb F) (words bytes)) 6 orElse given (not (ascending (words bytes))) 7) e .0)
+bare-even names limit bytes e = not-given _ _ (neither (given (odd bytes) 4) _ e .0)
 
--- and are below F and strictly ascending.
-pub bare-fine : (F : ℕ) (bytes : List ℕ) → bare F bytes ≡ none
-    → ((f : ℕ) → f ∈ words bytes → f < F) × (ascending (words bytes) ≡ true)
+-- and are below the limit and strictly ascending.
+pub bare-fine : (names : Bool) (limit : ℕ) (bytes : List ℕ) → bare names limit bytes ≡ none
+    → ((n : ℕ) → n ∈ words bytes → n < limit) × (ascending (words bytes) ≡ true)
 unfolding bare
-bare-fine F bytes e =
-    let facts = words bytes in
-    let (even, rest) =
-    neither (given (odd bytes) 4) (given (any (leb F) facts) 6 orElse given (not (ascending facts)) 7) e in
-    let (known, ordered) = neither (given (any (leb F) facts) 6) (given (not (ascending facts)) 7) rest in (
-      λ f m. leb-false F f
-          (is-false (λ t. fails (not-given (any (leb F) facts) 6 known) (any-intro (leb F) facts f m t))),
+bare-fine names limit bytes e =
+    let large = any (leb limit) (words bytes) in
+    let (even, rest) = neither (given (odd bytes) 4) _ e in
+    let (facts, rest') = neither (given (not names && large) 6) _ rest in
+    let (named, ordered) = neither (given (names && large) 12) _ rest' in
+    let small : large ≡ false = either-clear names large (not-given _ _ facts) (not-given _ _ named) in (
+      λ n m. leb-false limit n (is-false (λ t. fails small (any-intro (leb limit) (words bytes) n m t))),
       not-false _ (not-given _ _ ordered),
     )
+  where
+    either-clear : (names large : Bool) → (not names && large) ≡ false → (names && large) ≡ false → large ≡ false
+    either-clear true large e f = f
+    either-clear false large e f = e

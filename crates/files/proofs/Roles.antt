@@ -1,8 +1,8 @@
 -- Laws on the sections that a model of a version has: each role has one place among them, and some are in every
 -- version.
-use Prim.Native.Nat.{ℕ, zero, suc, _≤_, _<_}
+use Prim.Native.Nat.{ℕ, zero, suc, _+_, _≤_, _<_}
 use mathlib.Core.Path.{_≡_, refl, sym, ap, subst, _∙_}
-use mathlib.Core.Logic.{⊎-elim}
+use mathlib.Core.Logic.{_⊎_, inl, inr, ⊎-elim}
 use mathlib.Core.Bool.{true, false, true≢false}
 use mathlib.Core.List.{List, [], _∷_, map}
 use native.Mathlib.Nat.{not-suc-le-zero, le-of-suc-le-suc}
@@ -15,7 +15,7 @@ use Rattle.records.specs.Words.{ascending}
 use Rattle.lists.proofs.Sorted.{ascending-at}
 use Rattle.sections.specs.Sections.{payload}
 use Rattle.sections.specs.declared.Role.{Role}
-use Rattle.sections.specs.declared.Role.the-variants.{Sizes, Initial, Persistent, Clauses, Rules, Goals}
+use Rattle.sections.specs.declared.Role.the-variants.{Sizes, Initial, Persistent, Names, Clauses, Rules, Goals}
 use Rattle.files.specs.Files.{since, roles, rolesOf, tag, indexOf, has, placeOfRole, sectionOf}
 use Rattle.files.specs.Files.{There}
 
@@ -27,25 +27,47 @@ one = Sizes ∷ Initial ∷ Clauses ∷ Rules ∷ Goals ∷ []
 abbrev pub two : List Role
 two = Sizes ∷ Initial ∷ Persistent ∷ Clauses ∷ Rules ∷ Goals ∷ []
 
--- the sections of version 1, and those of version 2
+abbrev pub three : List Role
+three = Sizes ∷ Initial ∷ Persistent ∷ Names ∷ Clauses ∷ Rules ∷ Goals ∷ []
+
+-- the sections of version 1, those of version 2 and those of version 3
 pub roles-one : (version : ℕ) → version < 2 → roles version ≡ one
 unfolding roles since
-roles-one version h = rw (lt-leb 2 version h)
+roles-one version h = rw (lt-leb 2 version h, lt-leb 3 version (omega arith))
 
-pub roles-two : (version : ℕ) → 2 ≤ version → roles version ≡ two
+pub roles-two : (version : ℕ) → 2 ≤ version → version < 3 → roles version ≡ two
 unfolding roles since
-roles-two version h = rw (le-leb 2 version h)
+roles-two version h l = rw (le-leb 2 version h, lt-leb 3 version l)
 
--- Version 1 has no persistent facts.
+pub roles-three : (version : ℕ) → 3 ≤ version → roles version ≡ three
+unfolding roles since
+roles-three version h = rw (le-leb 2 version (omega arith), le-leb 3 version h)
+
+-- What holds of the sections of each holds of every version's.
+pub by-version : (P : List Role → Type 0) → P one → P two → P three → (version : ℕ) → P (roles version)
+by-version P first second third version =
+    ⊎-elim (λ h. rw (roles-one version h) first)
+    (λ h.
+    ⊎-elim (λ l. rw (roles-two version h l) second) (λ l. rw (roles-three version l) third)
+    (below-or-from version 3))
+    (below-or-from version 2)
+
+-- the model has no section of the role, by the sections of its version
+abbrev Lacks : Role → List Role → Type 0
+Lacks r rs = ltb (indexOf r rs) (length rs) ≡ false
+
+-- Version 1 has no persistent facts;
 pub one-lacks : (file : List ℕ) → getD file 0 0 < 2 → has file Persistent ≡ false
 unfolding has rolesOf indexOf tag
-one-lacks file h =
-    subst (λ (rs : List Role). ltb (indexOf Persistent rs) (length rs) ≡ false) (sym (roles-one _ h)) refl
+one-lacks file h = subst (Lacks Persistent) (sym (roles-one _ h)) refl
 
--- What holds of the sections of both holds of every version's.
-pub by-version : (P : List Role → Type 0) → P one → P two → (version : ℕ) → P (roles version)
-by-version P first second version =
-    ⊎-elim (λ h. rw (roles-one version h) first) (λ h. rw (roles-two version h) second) (below-or-from version 2)
+-- versions 1 and 2 have no names.
+pub names-lacking : (file : List ℕ) → getD file 0 0 < 3 → has file Names ≡ false
+unfolding has rolesOf indexOf tag
+names-lacking file h =
+    ⊎-elim (λ l. subst (Lacks Names) (sym (roles-one _ l)) refl)
+    (λ l. subst (Lacks Names) (sym (roles-two _ l h)) refl)
+    (below-or-from (getD file 0 0) 2)
 
 -- the roles that every version has
 pub record Always (rs : List Role) : Type 0 where
@@ -61,33 +83,72 @@ always file =
     by-version Always
     (record { sizes = lit< tt; initial = lit< tt; clauses = lit< tt; rules = lit< tt; goals = lit< tt })
     (record { sizes = lit< tt; initial = lit< tt; clauses = lit< tt; rules = lit< tt; goals = lit< tt })
+    (record { sizes = lit< tt; initial = lit< tt; clauses = lit< tt; rules = lit< tt; goals = lit< tt })
     (getD file 0 0)
 
--- A role that isn't in a model's version is that of the persistent facts.
-pub absent-role : (file : List ℕ) (r : Role) → has file r ≡ false → r ≡ Persistent
+-- A role that isn't in a model's version is that of the persistent facts or of the names.
+pub absent-role : (file : List ℕ) (r : Role) → has file r ≡ false → (r ≡ Persistent) ⊎ (r ≡ Names)
 unfolding has
 absent-role file Sizes e = absurd (true≢false (sym (lt-ltb _ _ (always file .sizes)) ∙ e))
 absent-role file Initial e = absurd (true≢false (sym (lt-ltb _ _ (always file .initial)) ∙ e))
-absent-role file Persistent e = refl
+absent-role file Persistent e = inl refl
+absent-role file Names e = inr refl
 absent-role file Clauses e = absurd (true≢false (sym (lt-ltb _ _ (always file .clauses)) ∙ e))
 absent-role file Rules e = absurd (true≢false (sym (lt-ltb _ _ (always file .rules)) ∙ e))
 absent-role file Goals e = absurd (true≢false (sym (lt-ltb _ _ (always file .goals)) ∙ e))
 
+-- ---- a version's sections among those of the latest
+
+-- The first two are the same in every version.
+pub first-two : (version i : ℕ) → i < 2 → getD (roles version) i Goals ≡ getD (roles 3) i Goals
+unfolding roles since
+first-two version zero h = refl
+first-two version (suc zero) h = refl
+first-two version (suc (suc i)) h = absurd (omega arith)
+
+-- Version 1 lacks two of them after these,
+pub two-less : (version i : ℕ) → version < 2 → 2 ≤ i → getD (roles version) i Goals ≡ getD (roles 3) (i + 2) Goals
+unfolding roles since
+two-less version zero h l = absurd (omega arith)
+two-less version (suc zero) h l = absurd (omega arith)
+two-less version (suc (suc i)) h l =
+    let on : suc (suc i) + 2 ≡ suc (suc (suc (suc i))) = omega arith in rw (roles-one version h, on)
+
+-- the third is the same from version 2 on,
+pub third-same : (version i : ℕ) → 2 ≤ version → 2 ≤ i → i < 3 → getD (roles version) i Goals ≡ getD (roles 3) i Goals
+unfolding roles since
+third-same version i h l k = let third : i ≡ 2 = omega arith in rw (third, le-leb 2 version h)
+
+-- and version 2 lacks one after it.
+pub one-less : (version i : ℕ) → 2 ≤ version → version < 3 → 3 ≤ i
+    → getD (roles version) i Goals ≡ getD (roles 3) (i + 1) Goals
+unfolding roles since
+one-less version zero h l k = absurd (omega arith)
+one-less version (suc zero) h l k = absurd (omega arith)
+one-less version (suc (suc zero)) h l k = absurd (omega arith)
+one-less version (suc (suc (suc i))) h l k =
+    let on : suc (suc (suc i)) + 1 ≡ suc (suc (suc (suc i))) = omega arith in rw (roles-two version h l, on)
+
+-- There are at most seven.
+pub at-most-seven : (version : ℕ) → length (roles version) ≤ 7
+at-most-seven = by-version (λ rs. length rs ≤ 7) (omega arith) (omega arith) (omega arith)
+
 -- ---- a role and its place
 
 -- the role of a number
-tagged : (r : Role) → getD two (tag r) Goals ≡ r
+tagged : (r : Role) → getD three (tag r) Goals ≡ r
 unfolding tag
 tagged Sizes = refl
 tagged Initial = refl
 tagged Persistent = refl
+tagged Names = refl
 tagged Clauses = refl
 tagged Rules = refl
 tagged Goals = refl
 
 -- Roles of one number are one role.
 pub same-role : (r q : Role) → tag r ≡ tag q → r ≡ q
-same-role r q e = sym (tagged r) ∙ ap (λ n. getD two n Goals) e ∙ tagged q
+same-role r q e = sym (tagged r) ∙ ap (λ n. getD three n Goals) e ∙ tagged q
 
 -- No place is past the last.
 pub index-within : (r : Role) (rs : List Role) → indexOf r rs ≤ length rs
@@ -123,7 +184,7 @@ in-order file q r there-q there-r less =
     rs = rolesOf file
 
     sorted : ascending (map tag rs) ≡ true
-    sorted = by-version (λ rs. ascending (map tag rs) ≡ true) refl refl (getD file 0 0)
+    sorted = by-version (λ rs. ascending (map tag rs) ≡ true) refl refl refl (getD file 0 0)
 
     later : indexOf r rs < indexOf q rs → ⊥
     later h =
@@ -136,7 +197,7 @@ in-order file q r there-q there-r less =
 -- The place of the role at a place is that place.
 pub role-at : (version i : ℕ) → i < length (roles version) → indexOf (getD (roles version) i Goals) (roles version) ≡ i
 unfolding indexOf tag
-role-at = by-version (λ rs. (i : ℕ) → i < length rs → indexOf (getD rs i Goals) rs ≡ i) first second
+role-at = by-version (λ rs. (i : ℕ) → i < length rs → indexOf (getD rs i Goals) rs ≡ i) first second third
   where
     first : (i : ℕ) → i < 5 → indexOf (getD one i Goals) one ≡ i
     first zero h = refl
@@ -154,6 +215,29 @@ role-at = by-version (λ rs. (i : ℕ) → i < length rs → indexOf (getD rs i 
     second (suc (suc (suc (suc zero)))) h = refl
     second (suc (suc (suc (suc (suc zero))))) h = refl
     second (suc (suc (suc (suc (suc (suc i)))))) h = absurd (omega arith)
+
+    third : (i : ℕ) → i < 7 → indexOf (getD three i Goals) three ≡ i
+    third zero h = refl
+    third (suc zero) h = refl
+    third (suc (suc zero)) h = refl
+    third (suc (suc (suc zero))) h = refl
+    third (suc (suc (suc (suc zero)))) h = refl
+    third (suc (suc (suc (suc (suc zero))))) h = refl
+    third (suc (suc (suc (suc (suc (suc zero)))))) h = refl
+    third (suc (suc (suc (suc (suc (suc (suc i))))))) h = absurd (omega arith)
+
+-- A role has the place of the section with its number;
+pub found-at : (version i : ℕ) (r : Role) → i < length (roles version) → tag (getD (roles version) i Goals) ≡ tag r
+    → indexOf r (roles version) ≡ i
+found-at version i r h e =
+    ap (λ q. indexOf q (roles version)) (sym (same-role (getD (roles version) i Goals) r e)) ∙ role-at version i h
+
+-- where no section has it, the place after the last.
+pub found-nowhere : (rs : List Role) (r : Role) → ((j : ℕ) → j < length rs → tag (getD rs j Goals) ≡ tag r → ⊥)
+    → indexOf r rs ≡ length rs
+found-nowhere rs r none-there =
+    ⊎-elim (λ h. absurd (none-there (indexOf r rs) h (ap tag (role-there rs r h))))
+    (λ h. omega (arith, index-within r rs)) (below-or-from (indexOf r rs) (length rs))
 
 -- ---- a role's section
 

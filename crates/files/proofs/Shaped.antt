@@ -2,6 +2,7 @@
 -- nothing stands after the last section.
 use Prim.Native.Nat.{ℕ, zero, suc, _+_, _≤_, _<_}
 use mathlib.Core.Path.{_≡_}
+use mathlib.Core.Logic.{_⊎_, inl, inr}
 use mathlib.Core.Bool.{true, false}
 use mathlib.Core.List.{List, [], _∷_}
 use mathlib.Core.Option.{none}
@@ -11,7 +12,7 @@ use borrow.Author.Tests.{ltb-false}
 use lib.ListN.{length, getD}
 use Rattle.sections.specs.Sections.{sectionAt, fits, payload, inSection, reader}
 use Rattle.sections.specs.declared.Role.{Role}
-use Rattle.sections.specs.declared.Role.the-variants.{Persistent, Goals}
+use Rattle.sections.specs.declared.Role.the-variants.{Persistent, Names, Goals}
 use Rattle.sections.proofs.Fits.{neither, nothing-left, section-fine}
 use Rattle.sections.proofs.Parts.{fit-ended, ended-size}
 use Rattle.files.specs.Files.{rolesOf, indexOf, has, placeOfRole, sectionOf, factCount, faultFrom, shapeFault}
@@ -24,16 +25,18 @@ use Rattle.files.proofs.Roles.{there-or-absent}
 module _ (F : ℕ) (file : List ℕ) where
   -- After a section without a fault come the others.
   others : (r : Role) (rs : List Role) (j : ℕ) → faultFrom (r ∷ rs) F file (sectionAt file j) ≡ none
-      → (inSection (reader r F) file (sectionAt file j) ≡ none) × (faultFrom rs F file (sectionAt file (suc j)) ≡ none)
+      → (inSection (reader (getD file 0 0) r F) file (sectionAt file j) ≡ none)
+      × (faultFrom rs F file (sectionAt file (suc j)) ≡ none)
   unfolding faultFrom sectionAt
-  others r rs j e = neither (inSection (reader r F) file (sectionAt file j)) _ e
+  others r rs j e = neither (inSection (reader (getD file 0 0) r F) file (sectionAt file j)) _ e
 
   -- Section j + i fits, and its reader finds nothing.
   fine-at : (rs : List Role) (j : ℕ) → faultFrom rs F file (sectionAt file j) ≡ none → (i : ℕ) → i < length rs
       → (fits file (sectionAt file (j + i)) ≡ true)
-      × (reader (getD rs i Goals) F (payload file (sectionAt file (j + i))) ≡ none)
+      × (reader (getD file 0 0) (getD rs i Goals) F (payload file (sectionAt file (j + i))) ≡ none)
   fine-at [] j e i h = absurd (not-suc-le-zero h)
-  fine-at (r ∷ rs) j e zero h = rw add-zero (section-fine (reader r F) file (sectionAt file j) (others r rs j e .0))
+  fine-at (r ∷ rs) j e zero h =
+      rw add-zero (section-fine (reader (getD file 0 0) r F) file (sectionAt file j) (others r rs j e .0))
   fine-at (r ∷ rs) j e (suc i) h =
       let same : suc j + i ≡ j + suc i = omega arith in
       rw (← same) (fine-at rs (suc j) (others r rs j e .1) i (le-of-suc-le-suc h))
@@ -49,10 +52,11 @@ module _ (F : ℕ) (file : List ℕ) where
 
 -- ---- a judged model
 
--- Nothing is found in the section that a model's version lacks.
-absent-fine : (F : ℕ) (r : Role) → r ≡ Persistent → reader r F [] ≡ none
+-- Nothing is found in a section that a model's version lacks.
+absent-fine : (version F : ℕ) (r : Role) → (r ≡ Persistent) ⊎ (r ≡ Names) → reader version r F [] ≡ none
 unfolding reader
-absent-fine F r e = rw (e, reader)
+absent-fine version F r (inl is) = rw (is, reader)
+absent-fine version F r (inr is) = rw (is, reader)
 
 module _ (file : List ℕ) (fine : shapeFault file ≡ none) where
   -- Each of its sections fits, by number,
@@ -66,7 +70,7 @@ module _ (file : List ℕ) (fine : shapeFault file ≡ none) where
   role-fits r there = section-fits (indexOf r (rolesOf file)) there
 
   -- In each its reader finds nothing.
-  pub judged-section : (r : Role) → reader r (factCount file) (sectionOf file r) ≡ none
+  pub judged-section : (r : Role) → reader (getD file 0 0) r (factCount file) (sectionOf file r) ≡ none
   unfolding shapeFault placeOfRole
   judged-section r =
       let rs = rolesOf file in
@@ -74,7 +78,7 @@ module _ (file : List ℕ) (fine : shapeFault file ≡ none) where
       (λ there.
       let found = fine-at (factCount file) file rs 0 fine (indexOf r rs) there .1 in
       rw (section-there file r there) (rw (role-there rs r there, zero-add) at found))
-      (λ absent. rw (section-absent file r absent) (absent-fine (factCount file) r (absent-role file r absent)))
+      (λ absent. rw (section-absent file r absent) (absent-fine _ (factCount file) r (absent-role file r absent)))
 
   -- Nothing stands after the last.
   pub file-end : length file ≤ sectionAt file (length (rolesOf file))

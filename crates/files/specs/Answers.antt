@@ -7,7 +7,7 @@ use Rattle.records.specs.Records.{records, placeOf}
 use Rattle.records.specs.declared.Fault.{Fault}
 use Rattle.sections.specs.Sections.{endAt, sectionAt, payload, entries}
 use Rattle.sections.specs.declared.Role.{Role}
-use Rattle.sections.specs.declared.Role.the-variants.{Sizes, Initial, Persistent, Clauses, Rules, Goals}
+use Rattle.sections.specs.declared.Role.the-variants.{Sizes, Initial, Persistent, Names, Clauses, Rules, Goals}
 use Rattle.files.specs.Files.{Blamed, placeOfRole, sectionOf, modelOf}
 use Rattle.files.specs.Files.Blamed.{model, trace}
 use Rattle.files.specs.declared.Counts.{Counts}
@@ -87,6 +87,7 @@ unfoldable pub noted : Counts → Role → ℕ → Counts
 noted n Sizes k = n
 noted n Initial k = n
 noted n Persistent k = n
+noted n Names k = n
 noted n Clauses k = record { clauses = k; rules = n .rules; goals = n .goals }
 noted n Rules k = record { clauses = n .clauses; rules = k; goals = n .goals }
 noted n Goals k = record { clauses = n .clauses; rules = n .rules; goals = k }

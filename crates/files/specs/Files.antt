@@ -13,9 +13,9 @@ use Rattle.records.specs.Records.{given, _orElse_, records, listOf}
 use Rattle.records.specs.declared.Fault.{Fault}
 use Rattle.records.specs.declared.Kind.the-variants as kind
 use Rattle.sections.specs.Sections.{endAt, inSection, leftOver, allOf, payload, sectionAt, reader}
-use Rattle.sections.specs.Sections.{tooLong, wrongVersion}
+use Rattle.sections.specs.Sections.{ruleKind, tooLong, wrongVersion}
 use Rattle.sections.specs.declared.Role.{Role}
-use Rattle.sections.specs.declared.Role.the-variants.{Sizes, Initial, Persistent, Clauses, Rules, Goals}
+use Rattle.sections.specs.declared.Role.the-variants.{Sizes, Initial, Persistent, Names, Clauses, Rules, Goals}
 
 -- ---- the sections of a model
 
@@ -24,10 +24,12 @@ unfoldable pub since : ℕ → Role → ℕ → List Role
 since first r version = cond (leb first version) (r ∷ []) []
 
 -- "Model sections, in order: 1. sizes .. 2. initial facts .. 3. clauses; 4. rules; 5. attack states"; "Model version 2
--- has one more section after the initial facts: the persistent facts" (document 02, wish 2)
+-- has one more section after the initial facts: the persistent facts" (document 02, wish 2); "Model version 3 is version
+-- 2 with a section of names in use at the start, after the persistent facts" (wish 9)
 unfoldable pub roles : ℕ → List Role
 unfolding since
-roles version = Sizes ∷ Initial ∷ since 2 Persistent version ++ Clauses ∷ Rules ∷ Goals ∷ []
+roles version =
+    Sizes ∷ Initial ∷ since 2 Persistent version ++ since 3 Names version ++ Clauses ∷ Rules ∷ Goals ∷ []
 
 -- "A file starts with a version byte": the sections that the file of a model has
 unfoldable pub rolesOf : List ℕ → List Role
@@ -39,9 +41,10 @@ unfoldable pub tag : Role → ℕ
 tag Sizes = 0
 tag Initial = 1
 tag Persistent = 2
-tag Clauses = 3
-tag Rules = 4
-tag Goals = 5
+tag Names = 3
+tag Clauses = 4
+tag Rules = 5
+tag Goals = 6
 
 -- how many sections stand before that of a role
 unfoldable pub indexOf : Role → List Role → ℕ
@@ -84,11 +87,13 @@ unfoldable pub clausesIn : List ℕ → List Clause
 unfolding records clauseOf
 clausesIn section = map clauseOf (records section)
 
--- "A rule is three lists P, N, A", in a model of a version
+-- "A rule is three lists P, N, A"; in version 3 "and a fourth list in each rule, the names it makes" (document 02, wish
+-- 9): the rule that a record is, in a model of a version
 unfoldable pub ruleIn : ℕ → List ℕ → Rule
-unfolding listOf
+unfolding ruleKind listOf
 ruleIn version r =
-    record { P = listOf kind.Rule r 0; N = listOf kind.Rule r 1; A = listOf kind.Rule r 2; names = [] }
+    let K = ruleKind version in
+    record { P = listOf K r 0; N = listOf K r 1; A = listOf K r 2; names = listOf K r 3 }
 
 -- "an attack state two, P and N"
 unfoldable pub goalIn : List ℕ → Goal
@@ -102,7 +107,7 @@ modelOf file = record {
   F = factCount file;
   initial = words (sectionOf file Initial);
   persistent = words (sectionOf file Persistent);
-  names = [];
+  names = words (sectionOf file Names);
   clauses = clausesIn (sectionOf file Clauses);
   rules = map (ruleIn (getD file 0 0)) (records (sectionOf file Rules));
   goals = map goalIn (records (sectionOf file Goals));
@@ -125,7 +130,8 @@ traceOf file = record { goal = word (entriesOf file); steps = words (drop 2 (ent
 unfoldable pub faultFrom : List Role → ℕ → List ℕ → ℕ → Option Fault
 unfolding _orElse_ inSection reader leftOver endAt
 faultFrom [] F file at = leftOver file at
-faultFrom (r ∷ rs) F file at = inSection (reader r F) file at orElse faultFrom rs F file (endAt file at)
+faultFrom (r ∷ rs) F file at =
+    inSection (reader (getD file 0 0) r F) file at orElse faultFrom rs F file (endAt file at)
 
 -- "then 4 to 7 for the model"
 unfoldable pub shapeFault : List ℕ → Option Fault
@@ -139,9 +145,9 @@ modelBytes = 65536
 abbrev pub traceBytes : ℕ
 traceBytes = 4096
 
--- "A file starts with a version byte, 1."; "VERSION for a model means neither 1 nor 2" (document 02, wish 2)
+-- "A file starts with a version byte, 1."; a model's may be 2 or 3 (document 02, wishes 2 and 9)
 abbrev pub modelVersion : ℕ
-modelVersion = 2
+modelVersion = 3
 
 abbrev pub traceVersion : ℕ
 traceVersion = 1

@@ -9,13 +9,15 @@ ghost use lib.ListN.{length, getD};
 ghost use Rattle.sets.specs.Sets.{_∈_};
 ghost use Rattle.records.specs.Words.{words};
 ghost use Rattle.records.specs.Records.{records};
-ghost use Rattle.sections.specs.Sections.{fits, sectionAt};
+ghost use Rattle.lists.specs.Lists.{Cut, ListBytes};
+ghost use Rattle.sections.specs.Sections.{fits, sectionAt, ruleKind};
 ghost use Rattle.sections.specs.declared.Role.{Role};
 ghost use Rattle.files.specs.Files.{placeOfRole, sectionOf, entriesOf, factCount, ruleIn, modelOf, shapeFault};
 ghost use Rattle.files.specs.Known.{KnownNames};
 ghost use Rattle.files.specs.Answers.{goalPart};
 use super::Part;
 use super::model;
+use records::Kind;
 use sections::Role;
 use sections::head;
 
@@ -24,10 +26,15 @@ fn place_of(model: &[u8], role: Role) -> usize
     requires { ⌜ shapeFault (now model) ≡ none ⌝ }
     ensures { λ r. ⌜ r ≡ placeOfRole (now (model .entry)) role ⌝ }
 {
-    let n = model::index_of(head::version_of(model), role);
+    let version = head::version_of(model);
+    let sections = model::section_count(version);
+    let tag = model::tag_of(role);
     let mut at = 1;
     let mut i = 0;
-    while i < n {
+    while i < sections {
+        if model::tag_of(model::role_at(version, i)) == tag {
+            return at;
+        }
         at = sections::section_end(model, at);
         i += 1;
     }
@@ -85,7 +92,15 @@ pub fn names(model: &[u8]) -> &[u8]
     requires { ⌜ shapeFault (now model) ≡ none ⌝ }
     ensures { λ r. ⌜ (words (now r) ≡ modelOf (now (model .entry)) .names) × KnownNames (now r) ⌝ }
 {
-    &model[..0]
+    section(model, Role::Names)
+}
+
+// The bytes of list j of a rule: P, N or A.
+pub fn rule_list<'a>(model: &[u8], rule: &'a [u8], j: usize) -> &'a [u8]
+    requires { ⌜ Cut (ruleKind (getD (now model) 0 0)) (now rule) × (j < 3) ⌝ }
+    ensures { λ r. ⌜ ListBytes (ruleKind (getD (now (model .entry)) 0 0)) (now (rule .entry)) j (now r) ⌝ }
+{
+    lists::list_of(rule, sections::rule_kind(head::version_of(model)), j)
 }
 
 // The names that a rule makes.
@@ -94,7 +109,10 @@ pub fn made<'a>(model: &[u8], rule: &'a [u8]) -> &'a [u8]
     ensures { λ r. ⌜ (words (now r) ≡ ruleIn (getD (now (model .entry)) 0 0) (now (rule .entry)) .names)
         × KnownNames (now r) ⌝ }
 {
-    &rule[..0]
+    if head::version_of(model) < 3 {
+        return &rule[..0];
+    }
+    lists::list_of(rule, Kind::Maker, 3)
 }
 
 // The trace's entries: the bytes of its section.

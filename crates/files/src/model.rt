@@ -1,10 +1,11 @@
 // A model's faults, in document 01's order.
 ghost use mathlib.Core.Path.{_≡_};
+ghost use Prim.Native.Nat.{_+_, _≤_, _<_};
 ghost use mathlib.Core.Option.{none};
 ghost use lib.ListN.{length, getD};
 ghost use Rattle.sections.specs.Sections.{inSection, reader};
 ghost use Rattle.sections.specs.declared.Role.{Role};
-ghost use Rattle.files.specs.Files.{roles, indexOf, factCount, shapeFault, modelFault};
+ghost use Rattle.files.specs.Files.{roles, tag, factCount, shapeFault, modelFault};
 ghost use Rattle.files.specs.Answers.{countsOf, judged, noted};
 use super::Counts;
 use super::Judged;
@@ -13,58 +14,69 @@ use sections::Role;
 use sections::head;
 
 // How many sections a model of a version has.
-fn section_count(version: u8) -> usize
+pub fn section_count(version: u8) -> usize
     ensures { λ r. ⌜ r ≡ length (roles version) ⌝ }
 {
-    if version < 2 { 5 } else { 6 }
-}
-
-// The role of section i of a model of a version.
-fn role_at(version: u8, i: usize) -> Role
-    ensures { λ r. ⌜ r ≡ getD (roles version) i Role.Goals ⌝ }
-{
     if version < 2 {
-        match i {
-            0 => Role::Sizes,
-            1 => Role::Initial,
-            2 => Role::Clauses,
-            3 => Role::Rules,
-            _ => Role::Goals,
-        }
+        5
+    } else if version < 3 {
+        6
     } else {
-        match i {
-            0 => Role::Sizes,
-            1 => Role::Initial,
-            2 => Role::Persistent,
-            3 => Role::Clauses,
-            4 => Role::Rules,
-            _ => Role::Goals,
-        }
+        7
     }
 }
 
-// How many sections of a model of a version stand before that of a role: all of them, where it has none.
-pub fn index_of(version: u8, role: Role) -> usize
-    ensures { λ r. ⌜ r ≡ indexOf role (roles version) ⌝ }
+// The role of section i of a model of the latest version.
+fn role_of(i: usize) -> Role
+    ensures { λ r. ⌜ r ≡ getD (roles 3) i Role.Goals ⌝ }
 {
+    match i {
+        0 => Role::Sizes,
+        1 => Role::Initial,
+        2 => Role::Persistent,
+        3 => Role::Names,
+        4 => Role::Clauses,
+        5 => Role::Rules,
+        _ => Role::Goals,
+    }
+}
+
+// How many sections before section i a model of a version lacks.
+fn lacking(version: u8, i: usize) -> usize
+    ensures { λ r. ⌜ (getD (roles version) i Role.Goals ≡ getD (roles 3) (i + r) Role.Goals) × (r ≤ 2) ⌝ }
+{
+    if i < 2 {
+        return 0;
+    }
     if version < 2 {
-        match role {
-            Role::Sizes => 0,
-            Role::Initial => 1,
-            Role::Persistent => 5,
-            Role::Clauses => 2,
-            Role::Rules => 3,
-            Role::Goals => 4,
-        }
-    } else {
-        match role {
-            Role::Sizes => 0,
-            Role::Initial => 1,
-            Role::Persistent => 2,
-            Role::Clauses => 3,
-            Role::Rules => 4,
-            Role::Goals => 5,
-        }
+        return 2;
+    }
+    if i < 3 {
+        return 0;
+    }
+    if version < 3 { 1 } else { 0 }
+}
+
+// The role of section i of a model of a version.
+pub fn role_at(version: u8, i: usize) -> Role
+    requires { ⌜ i < length (roles version) ⌝ }
+    ensures { λ r. ⌜ r ≡ getD (roles version) i Role.Goals ⌝ }
+{
+    role_of(i + lacking(version, i))
+}
+
+// A role's place in the order of the documents, over all versions.
+pub fn tag_of(role: Role) -> usize
+    ensures { λ r. ⌜ r ≡ tag role ⌝ }
+{
+    match role {
+        Role::Sizes => 0,
+        Role::Initial => 1,
+        Role::Persistent => 2,
+        Role::Names => 3,
+        Role::Clauses => 4,
+        Role::Rules => 5,
+        Role::Goals => 6,
     }
 }
 
@@ -79,6 +91,7 @@ fn note(mut counts: Counts, role: Role, count: usize) -> Counts
         Role::Sizes => {}
         Role::Initial => {}
         Role::Persistent => {}
+        Role::Names => {}
     }
     counts
 }
@@ -86,7 +99,7 @@ fn note(mut counts: Counts, role: Role, count: usize) -> Counts
 // F as the sizes have it, where they are fine. Judging them asks for no F.
 fn facts_told(model: &[u8]) -> usize
     ensures { λ r. let file = now (model .entry) in
-        ⌜ (inSection (reader Role.Sizes r) file 1 ≡ none → r ≡ factCount file) ⌝ }
+        ⌜ (inSection (reader (getD file 0 0) Role.Sizes r) file 1 ≡ none → r ≡ factCount file) ⌝ }
 {
     let end = sections::section_end(model, 1);
     if end < 7 {
@@ -95,7 +108,7 @@ fn facts_told(model: &[u8]) -> usize
     records::word_at(&model[5..end], 0)
 }
 
-// The model's first fault of 4 to 7, or its counts.
+// The model's first fault of 4 to 7 or 12, or its counts.
 pub fn judge_shape(model: &[u8]) -> Judged
     ensures { λ r. ⌜ r ≡ judged (shapeFault (now (model .entry))) (countsOf (now (model .entry))) ⌝ }
 {
@@ -126,11 +139,11 @@ pub fn judge_shape(model: &[u8]) -> Judged
     Judged::Fine(counts)
 }
 
-// The model by itself: 2, 3, then 4 to 7.
+// The model by itself: 2, 3, then 4 to 7 or 12.
 pub fn judge_model(model: &[u8]) -> Judged
     ensures { λ r. ⌜ r ≡ judged (modelFault (now (model .entry))) (countsOf (now (model .entry))) ⌝ }
 {
-    let number = head::head_number(model, 65536, 2);
+    let number = head::head_number(model, 65536, 3);
     if number == 2 {
         return Judged::Fault(head::long_fault(model));
     }

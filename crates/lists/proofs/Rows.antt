@@ -4,10 +4,10 @@ use Prim.Native.Nat.{ℕ, zero, suc, _<_}
 use mathlib.Core.Path.{_≡_, refl, _∙_, sym}
 use mathlib.Core.Bool.{Bool, false, _||_}
 use mathlib.Core.List.{List, [], _∷_, List·Memᴰ·not-nil}
-use mathlib.Core.Option.{none, some}
+use mathlib.Core.Option.{Option, none, some, Option·getD}
 use native.Mathlib.Omega.{arith}
 use lib.Dec.{leb, ltb}
-use lib.ListN.{length, take, drop, getD}
+use lib.ListN.{length, take, drop, getD, List·getD-eq-default}
 use lib.Seq.{getD-take, getD-drop}
 use borrow.Author.Tests.{leb-false}
 use Rattle.sets.specs.Sets.{any, _∈_}
@@ -73,6 +73,16 @@ asked Rule F r lists e = asked-rule F lists (cut-length 3 (drop 2 r) lists (body
 asked Maker F r lists e = asked-maker F lists (cut-length 4 (drop 2 r) lists (body-cut Maker r lists e))
 asked Goal F r lists e = asked-goal F lists (cut-length 2 (drop 2 r) lists (body-cut Goal r lists e))
 
+-- A rule has no fourth list.
+pub no-fourth : (r : List ℕ) → listOf Rule r 3 ≡ []
+unfolding listOf cut listCount rows
+no-fourth r = go (listsOf Rule r) refl
+  where
+    go : (lists : Option (List (List ℕ))) → listsOf Rule r ≡ lists → getD (Option·getD lists []) 3 [] ≡ []
+    go none e = refl
+    go (some lists) e =
+        List·getD-eq-default lists [] (omega (arith, cut-length 3 (drop 2 r) lists (body-cut Rule r lists e)))
+
 -- ---- the numbers of a judged record
 
 module _ {ℓ} {A : Type ℓ} (p : A → Bool) where
@@ -89,20 +99,20 @@ below-limit limit (l ∷ lists) e zero f m = leb-false limit f (any-clear (leb l
 below-limit limit (l ∷ lists) e (suc j) f m = below-limit limit lists (or-clear (any (leb limit) l) _ e .1) j f m
 
 module _ (K : Kind) (F : ℕ) (section : List ℕ) (fine : firstFault (judge K F) section ≡ none)
-    (r : List ℕ) (member : r ∈ records section) (j n : ℕ) where
+    (r : List ℕ) (member : r ∈ records section) where
   -- Every number of the first three lists of a record of a judged section is below F;
-  pub judged-facts : j < 3 → n ∈ listOf K r j → n < F
+  pub judged-facts : (j f : ℕ) → j < 3 → f ∈ listOf K r j → f < F
   unfolding listOf
-  judged-facts h m =
+  judged-facts j f h m =
       let judged = judged-as K F section fine r member .1 in
       let lists = judged .lists in
       let clear = sym (asked K F r lists (judged .fill) .fact) ∙ judged .facts in
-      below-limit F (take 3 lists) clear j n (rw (getD-take 3 lists j [] h) (rw (judged .fill) at m))
+      below-limit F (take 3 lists) clear j f (rw (getD-take 3 lists j [] h) (rw (judged .fill) at m))
 
   -- those of a fourth list are names.
-  pub judged-names : n ∈ listOf K r 3 → n < 1024
+  pub judged-names : (n : ℕ) → n ∈ listOf K r 3 → n < 1024
   unfolding listOf
-  judged-names m =
+  judged-names n m =
       let judged = judged-as K F section fine r member .1 in
       let lists = judged .lists in
       let clear = sym (asked K F r lists (judged .fill) .name) ∙ judged .names in

@@ -119,10 +119,7 @@ fn sizes_number(bytes: &[u8]) -> u8
 fn numbers(bytes: &[u8], names: bool, limit: usize) -> Found
     ensures { λ r. ⌜ r ≡ found (allOf (bare names limit (now (bytes .entry))) (now (bytes .entry))) 0 ⌝ }
 {
-    whole(
-        records::numbers_number(bytes, names, limit),
-        bytes.len(),
-    )
+    whole(records::numbers_number(bytes, names, limit), bytes.len())
 }
 
 // What the rules of a version are.

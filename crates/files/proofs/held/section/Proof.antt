@@ -4,7 +4,6 @@ use native.Mathlib.Omega.{arith}
 use denote.Ref.{now}
 use mathlib.Core.Path.{_≡_, _∙_, ap, sym}
 use mathlib.Core.Bool.{true, false, true≢false}
-use lib.ListN.{length}
 use Rattle.sections.specs.Sections.{payload, fits}
 use Rattle.sections.proofs.Parts.{Ended, no-end, some-end, ended-bytes}
 use Rattle.files.proofs.Roles.{section-there, section-absent, there-or-absent}

@@ -1,7 +1,7 @@
 -- Every fault of a pair has its cause (specs/Causes), and its bytes are a part of the file at fault.
 use Prim.Native.Nat.{ℕ, zero, suc, _≤_, _<_}
 use mathlib.Core.Path.{_≡_, refl, sym, subst, _∙_}
-use mathlib.Core.Logic.{_↔_, ⊎-elim}
+use mathlib.Core.Logic.{_↔_, inl, inr, ⊎-elim}
 use mathlib.Core.Bool.{true≢false, _||_}
 use mathlib.Core.List.{List, [], _∷_, List·Memᴰ·head, List·Memᴰ·tail}
 use mathlib.Core.Option.{Option, none, some, Option·map, map-eq-none-iff, Option·none-ne-some, Option·some-ne-none}
@@ -19,11 +19,12 @@ use Rattle.sections.proofs.Fits.{neither, not-given}
 use Rattle.files.specs.Files.{Blamed, modelBytes, traceBytes, modelVersion, traceVersion}
 use Rattle.files.specs.Files.{modelFault, headsFault, filesFault, pairFault}
 use Rattle.files.specs.Files.Blamed.{model, trace}
-use Rattle.causes.specs.Causes.{ModelCause, TraceCause, Starts, ModelStarts, RightSizes, RightHeads, Cause, RightPair}
+use Rattle.causes.specs.Causes.{ModelCause, TraceCause, Starts, ModelStarts, RightSizes, RightHeads, Cause}
+use Rattle.causes.specs.Causes.{RightPair, Refusing}
 use Rattle.causes.proofs.Found.{either-found, given-found, Found}
 use Rattle.causes.proofs.ModelCauses.{right-model, model-cause}
 use Rattle.causes.proofs.TraceCauses.{trace-cause, trace-right}
-use Rattle.causes.proofs.Wrong.{wrong-range}
+use Rattle.causes.proofs.Wrong.{Within, wrong-within}
 use Rattle.files.proofs.Traces.{file-then, not-long, fine-pair, trace-goal-known, trace-step-known}
 
 -- ---- versions
@@ -32,18 +33,20 @@ use Rattle.files.proofs.Traces.{file-then, not-long, fine-pair, trace-goal-know
 abbrev UpTo : ℕ → List ℕ → Type 0
 UpTo latest versions = (v : ℕ) → (v ∈ versions) ↔ ((1 ≤ v) × (v ≤ latest))
 
-pub model-versions : UpTo modelVersion (1 ∷ 2 ∷ [])
+pub model-versions : UpTo modelVersion (1 ∷ 2 ∷ 3 ∷ [])
 model-versions v = (known, listed v)
   where
-    known : {v : ℕ} → v ∈ 1 ∷ 2 ∷ [] → (1 ≤ v) × (v ≤ 2)
+    known : {v : ℕ} → v ∈ 1 ∷ 2 ∷ 3 ∷ [] → (1 ≤ v) × (v ≤ 3)
     known (List·Memᴰ·head e) = (omega arith, omega arith)
     known (List·Memᴰ·tail (List·Memᴰ·head e)) = (omega arith, omega arith)
+    known (List·Memᴰ·tail (List·Memᴰ·tail (List·Memᴰ·head e))) = (omega arith, omega arith)
 
-    listed : (v : ℕ) → (1 ≤ v) × (v ≤ 2) → v ∈ 1 ∷ 2 ∷ []
+    listed : (v : ℕ) → (1 ≤ v) × (v ≤ 3) → v ∈ 1 ∷ 2 ∷ 3 ∷ []
     listed zero (low, high) = absurd (omega arith)
     listed (suc zero) h = List·Memᴰ·head refl
     listed (suc (suc zero)) h = List·Memᴰ·tail (List·Memᴰ·head refl)
-    listed (suc (suc (suc v))) (low, high) = absurd (omega arith)
+    listed (suc (suc (suc zero))) h = List·Memᴰ·tail (List·Memᴰ·tail (List·Memᴰ·head refl))
+    listed (suc (suc (suc (suc v)))) (low, high) = absurd (omega arith)
 
 pub trace-versions : UpTo traceVersion (1 ∷ [])
 trace-versions v = (known, listed v)
@@ -169,34 +172,38 @@ module _ (m t : List ℕ) where
 
 -- ---- the numbers
 
-pub model-range : {m : List ℕ} {k : ℕ} {bytes : List ℕ} → ModelCause m k bytes → (4 ≤ k) × (k ≤ 7)
-model-range (ModelCause.unfit r in-model before h) = omega arith
-model-range (ModelCause.wrong r in-model before fit n there earlier w least) = wrong-range r _ _ _ _ w
-model-range (ModelCause.after right h) = omega arith
+pub model-within : {m : List ℕ} {k : ℕ} {bytes : List ℕ} → ModelCause m k bytes → Within k
+model-within (ModelCause.unfit r in-model before h) = Within.shape
+model-within (ModelCause.wrong r in-model before fit n there earlier w least) = wrong-within _ r _ _ _ _ w
+model-within (ModelCause.after right h) = Within.shape
 
--- The number of a cause is one of 2 to 9, and never 8.
-pub cause-range : {m t : List ℕ} {mark k : ℕ} {bytes : List ℕ} → Cause m t mark k bytes
-    → (2 ≤ k) × (k ≤ 9) × (k ≡ 8 → ⊥)
-cause-range (Cause.long-model h) = (omega arith, omega arith, λ e. omega arith)
-cause-range (Cause.long-trace h l) = (omega arith, omega arith, λ e. omega arith)
-cause-range (Cause.version-model h s) = (omega arith, omega arith, λ e. omega arith)
-cause-range (Cause.version-trace h s v) = (omega arith, omega arith, λ e. omega arith)
-cause-range (Cause.in-model h c) =
-    let (low, high) = model-range c in
-    (omega arith, omega arith, λ e. omega arith)
+within-refusing : {k : ℕ} → Within k → Refusing k × (k ≡ 8 → ⊥)
+within-refusing Within.shape = (inl (omega arith, omega arith), λ e. omega arith)
+within-refusing Within.count = (inl (omega arith, omega arith), λ e. omega arith)
+within-refusing Within.fact = (inl (omega arith, omega arith), λ e. omega arith)
+within-refusing Within.name = (inr refl, λ e. omega arith)
+within-refusing Within.order = (inl (omega arith, omega arith), λ e. omega arith)
+
+-- The number of a cause is one of 2 to 9 or 12, and never 8.
+pub cause-range : {m t : List ℕ} {mark k : ℕ} {bytes : List ℕ} → Cause m t mark k bytes → Refusing k × (k ≡ 8 → ⊥)
+cause-range (Cause.long-model h) = (inl (omega arith, omega arith), λ e. omega arith)
+cause-range (Cause.long-trace h l) = (inl (omega arith, omega arith), λ e. omega arith)
+cause-range (Cause.version-model h s) = (inl (omega arith, omega arith), λ e. omega arith)
+cause-range (Cause.version-trace h s v) = (inl (omega arith, omega arith), λ e. omega arith)
+cause-range (Cause.in-model h c) = within-refusing (model-within c)
 cause-range (Cause.in-trace h r c) = trace-range c
   where
-    trace-range : {m t : List ℕ} {k : ℕ} {bytes : List ℕ} → TraceCause m t k bytes → (2 ≤ k) × (k ≤ 9) × (k ≡ 8 → ⊥)
-    trace-range (TraceCause.unfit h) = (omega arith, omega arith, λ e. omega arith)
-    trace-range (TraceCause.ragged h r) = (omega arith, omega arith, λ e. omega arith)
-    trace-range (TraceCause.after h r l) = (omega arith, omega arith, λ e. omega arith)
-    trace-range (TraceCause.count r h) = (omega arith, omega arith, λ e. omega arith)
-    trace-range (TraceCause.goal r h l s w) = (omega arith, omega arith, λ e. omega arith)
-    trace-range (TraceCause.step r h g i l b n s w) = (omega arith, omega arith, λ e. omega arith)
+    trace-range : {m t : List ℕ} {k : ℕ} {bytes : List ℕ} → TraceCause m t k bytes → Refusing k × (k ≡ 8 → ⊥)
+    trace-range (TraceCause.unfit h) = (inl (omega arith, omega arith), λ e. omega arith)
+    trace-range (TraceCause.ragged h r) = (inl (omega arith, omega arith), λ e. omega arith)
+    trace-range (TraceCause.after h r l) = (inl (omega arith, omega arith), λ e. omega arith)
+    trace-range (TraceCause.count r h) = (inl (omega arith, omega arith), λ e. omega arith)
+    trace-range (TraceCause.goal r h l s w) = (inl (omega arith, omega arith), λ e. omega arith)
+    trace-range (TraceCause.step r h g i l b n s w) = (inl (omega arith, omega arith), λ e. omega arith)
 
 -- ---- a model by itself
 
--- Its fault is its size, its version, or a cause of 4 to 7.
+-- Its fault is its size, its version, or a cause of 4 to 7 or 12.
 pub alone-cause : (m : List ℕ) (C : ℕ → Type 0) → (65536 < length m → C 2)
     → (length m ≤ 65536 → (ModelStarts m → ⊥) → C 3)
     → ((k : ℕ) (bytes : List ℕ) → length m ≤ 65536 → ModelStarts m → ModelCause m k bytes → C k)
@@ -212,11 +219,12 @@ alone-cause m C long version wrong f e =
     wrong _ _ size first (model-cause m (starts-byte _ m first) f e .cause))
     (either-found (wrongVersion modelVersion m) _ f e)) (either-found (tooLong modelBytes m) _ f e)
 
--- The number is one of 2 to 7.
-pub model-fault-range : (m : List ℕ) (f : Fault) → modelFault m ≡ some f → (2 ≤ f .number) × (f .number ≤ 7)
+-- The number is one of 2 to 9 or 12, and never 8.
+pub model-fault-range : (m : List ℕ) (f : Fault) → modelFault m ≡ some f
+    → Refusing (f .number) × (f .number ≡ 8 → ⊥)
 model-fault-range m =
-    alone-cause m (λ k. (2 ≤ k) × (k ≤ 7)) (λ _. omega arith) (λ _ _. omega arith)
-    (λ _ _ _ _ c. omega (arith, model-range c))
+    alone-cause m (λ k. Refusing k × (k ≡ 8 → ⊥)) (λ _. (inl (omega arith, omega arith), λ e. omega arith))
+    (λ _ _. (inl (omega arith, omega arith), λ e. omega arith)) (λ _ _ _ _ c. within-refusing (model-within c))
 
 -- ---- a right pair
 

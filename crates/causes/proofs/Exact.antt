@@ -17,9 +17,10 @@ use Rattle.files.specs.Files.Blamed.{model, trace}
 use Rattle.files.specs.Answers.{blamedNumber}
 use Rattle.causes.specs.Causes.{Fits, WrongIn, RightSection, ModelCause, RightModel, RightTrace, TraceCause}
 use Rattle.files.specs.Files.{There}
-use Rattle.causes.specs.Causes.{RightBefore, ModelStarts, RightSizes, RightHeads, Cause, RightPair}
+use Rattle.causes.specs.Causes.{turn, RightBefore, ModelStarts, RightSizes, RightHeads, Cause, RightPair}
 use Rattle.files.proofs.Roles.{same-role}
 use Rattle.files.proofs.Traces.{not-long}
+use Rattle.causes.proofs.Wrong.{wrong-within, one-turn}
 use Rattle.causes.proofs.ModelCauses.{right-model}
 use Rattle.causes.proofs.Causes.{model-versions, starts, pair-cause, alone-cause, right-pair}
 
@@ -68,14 +69,15 @@ module _ (m : List ℕ) where
   -- what is wrong first with a section that fits has one number
   one-wrong : (r : Role) {k j : ℕ} (n i : ℕ) → ((a b : ℕ) → a < n → WrongIn m r a b → ⊥)
       → ((a b : ℕ) → a < i → WrongIn m r a b → ⊥)
-      → WrongIn m r n k → WrongIn m r i j → ((b : ℕ) → b < k → WrongIn m r n b → ⊥)
-      → ((b : ℕ) → b < j → WrongIn m r i b → ⊥)
+      → WrongIn m r n k → WrongIn m r i j → ((b : ℕ) → turn b < turn k → WrongIn m r n b → ⊥)
+      → ((b : ℕ) → turn b < turn j → WrongIn m r i b → ⊥)
       → k ≡ j
   one-wrong r {k} {j} n i before-n before-i w v least-k least-j =
       let same : n ≡ i = one-of n i (λ h. before-i n k h w) (λ h. before-n i j h v) in
       let w' : WrongIn m r i k = subst (λ a. WrongIn m r a k) same w in
       let v' : WrongIn m r n j = subst (λ a. WrongIn m r a j) (sym same) v in
-      one-of k j (λ h. least-j k h w') (λ h. least-k j h v')
+      one-turn (wrong-within _ r _ _ _ k w) (wrong-within _ r _ _ _ j v)
+      (one-of (turn k) (turn j) (λ h. least-j k h w') (λ h. least-k j h v'))
 
   pub model-number : {k j : ℕ} {x y : List ℕ} → ModelCause m k x → ModelCause m j y → k ≡ j
   model-number (ModelCause.unfit r in-r before short) (ModelCause.unfit q in-q before-q short-q) = refl
@@ -102,7 +104,7 @@ module _ (m : List ℕ) where
       let wrong-q : RightSection m q → ⊥ = λ right. right .records i there-q j v in
       let same : r ≡ q = one-role r q in-r in-q before-r before-q wrong-r wrong-q in
       one-wrong q n i (subst (λ r. (a b : ℕ) → a < n → WrongIn m r a b → ⊥) same earlier) earlier-q
-      (subst (λ r. WrongIn m r n k) same w) v (subst (λ r. (b : ℕ) → b < k → WrongIn m r n b → ⊥) same least) least-q
+      (subst (λ r. WrongIn m r n k) same w) v (subst (λ r. (b : ℕ) → turn b < turn k → WrongIn m r n b → ⊥) same least) least-q
 
 -- ---- the trace and the pair
 

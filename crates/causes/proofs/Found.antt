@@ -13,13 +13,13 @@ use lib.ListN.{length, take, drop, getD, length-take, length-drop, take-append-d
 use lib.Seq.{drop-drop, drop-append-le, take-append-le, take-length, length-take-le}
 use Rattle.sets.proofs.Laws.{by-test}
 use Rattle.records.specs.Words.{word}
-use Rattle.records.specs.Records.{given, _orElse_, recordOf, records, placeOf, firstFrom, firstFault}
+use Rattle.records.specs.Records.{given, _orElse_, recordOf, records, placeOf, bare, firstFrom, firstFault}
 use Rattle.records.specs.declared.Fault.{Fault}
 use Rattle.records.proofs.Sections.{rest-of, record-fits, record-rest, first-here, first-later}
 use Rattle.records.proofs.Places.{place-record, place-le}
 use Rattle.sections.specs.Sections.{long, endAt, fits, payload, restFault, moved, inSection, allOf, sizes, reader}
 use Rattle.sections.specs.declared.Role.{Role}
-use Rattle.sections.specs.declared.Role.the-variants.{Sizes, Initial, Persistent, Clauses, Rules, Goals}
+use Rattle.sections.specs.declared.Role.the-variants.{Sizes, Initial, Persistent, Names, Clauses, Rules, Goals}
 use Rattle.sections.proofs.Parts.{fit-ended, ended-size, within-fits}
 use Rattle.sections.proofs.Fits.{fits-within}
 use Rattle.causes.specs.Causes.{judgedRecords, Fits}
@@ -203,6 +203,7 @@ unfolding judgedRecords
 judged-placed Sizes bytes = whole-placed bytes
 judged-placed Initial bytes = whole-placed bytes
 judged-placed Persistent bytes = whole-placed bytes
+judged-placed Names bytes = whole-placed bytes
 judged-placed Clauses bytes = record-placed bytes
 judged-placed Rules bytes = record-placed bytes
 judged-placed Goals bytes = record-placed bytes
@@ -219,12 +220,13 @@ all-first find bytes = go (find bytes) refl
     go (some k) e = rw (e, firstFrom)
 
 -- A section's reader finds the first of its records that is refused.
-pub reader-first : (role : Role) (F : ℕ) (bytes : List ℕ)
-    → reader role F bytes ≡ firstFrom (numberIn role F) 0 0 (judgedRecords role bytes)
+pub reader-first : (version : ℕ) (role : Role) (F : ℕ) (bytes : List ℕ)
+    → reader version role F bytes ≡ firstFrom (numberIn version role F) 0 0 (judgedRecords role bytes)
 unfolding reader numberIn judgedRecords firstFault
-reader-first Sizes F bytes = all-first sizes bytes
-reader-first Initial F bytes = all-first (Rattle.records.specs.Records.bare F) bytes
-reader-first Persistent F bytes = all-first (Rattle.records.specs.Records.bare F) bytes
-reader-first Clauses F bytes = refl
-reader-first Rules F bytes = refl
-reader-first Goals F bytes = refl
+reader-first version Sizes F bytes = all-first sizes bytes
+reader-first version Initial F bytes = all-first (bare false F) bytes
+reader-first version Persistent F bytes = all-first (bare false F) bytes
+reader-first version Names F bytes = all-first (bare true 1024) bytes
+reader-first version Clauses F bytes = refl
+reader-first version Rules F bytes = refl
+reader-first version Goals F bytes = refl

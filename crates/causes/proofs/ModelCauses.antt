@@ -29,16 +29,16 @@ use Rattle.causes.proofs.Found.{first-at, judged-placed, reader-first}
 
 -- A section that fits and in which nothing is found is right.
 right-section : (m : List ℕ) (r : Role) → fits m (placeOfRole m r) ≡ true
-    → reader r (factCount m) (sectionOf m r) ≡ none → RightSection m r
+    → reader (getD m 0 0) r (factCount m) (sectionOf m r) ≡ none → RightSection m r
 right-section m r fit fine = record {
   fits = fits-is m (placeOfRole m r) fit;
-  records = λ n h. number-none r (factCount m) n (recordIn m r n) (clear n h);
+  records = λ n h. number-none (getD m 0 0) r (factCount m) n (recordIn m r n) (clear n h);
 }
   where
-    clear : (n : ℕ) → n < length (judgedRecords r (sectionOf m r)) → numberIn r (factCount m) n (recordIn m r n) ≡ none
+    clear : (n : ℕ) → n < length (judgedRecords r (sectionOf m r)) → numberIn (getD m 0 0) r (factCount m) n (recordIn m r n) ≡ none
     clear n h =
-        let found = sym (reader-first r (factCount m) (sectionOf m r)) ∙ fine in
-        rw zero-add at (passed-at (numberIn r (factCount m)) 0 0 (judgedRecords r (sectionOf m r)) found n h)
+        let found = sym (reader-first (getD m 0 0) r (factCount m) (sectionOf m r)) ∙ fine in
+        rw zero-add at (passed-at (numberIn (getD m 0 0) r (factCount m)) 0 0 (judgedRecords r (sectionOf m r)) found n h)
 
 -- A model without a fault is right.
 pub right-model : (m : List ℕ) → shapeFault m ≡ none → RightModel m
@@ -49,7 +49,7 @@ right-model m fine = record {
 
 -- The fault of a section whose earlier ones are right is a cause for the model.
 module _ (m : List ℕ) (r : Role) (there : There m r) (before : RightBefore m r) (f : Fault) where
-  section-cause : placeOfRole m r ≤ length m → inSection (reader r (factCount m)) m (placeOfRole m r) ≡ some f
+  section-cause : placeOfRole m r ≤ length m → inSection (reader (getD m 0 0) r (factCount m)) m (placeOfRole m r) ≡ some f
       → Found m (ModelCause m) f
   section-cause low e =
       ⊎-elim
@@ -58,25 +58,25 @@ module _ (m : List ℕ) (r : Role) (there : There m r) (before : RightBefore m r
       (λ (fit, g, found, is).
       let here = section-there m r there in
       moved-found m (placeOfRole m r) fit (ModelCause m) is (rw here at (inside fit g (rw (← here) at found))))
-      (section-found (reader r (factCount m)) m (placeOfRole m r) f e)
+      (section-found (reader (getD m 0 0) r (factCount m)) m (placeOfRole m r) f e)
     where
-      inside : fits m (placeOfRole m r) ≡ true → (g : Fault) → reader r (factCount m) (sectionOf m r) ≡ some g
+      inside : fits m (placeOfRole m r) ≡ true → (g : Fault) → reader (getD m 0 0) r (factCount m) (sectionOf m r) ≡ some g
           → Found (sectionOf m r) (ModelCause m) g
       inside fit g found =
           let F = factCount m in
           let rs = judgedRecords r (sectionOf m r) in
-          let at = first-at (numberIn r F) 0 0 rs g (sym (reader-first r F (sectionOf m r)) ∙ found) in
+          let at = first-at (numberIn (getD m 0 0) r F) 0 0 rs g (sym (reader-first (getD m 0 0) r F (sectionOf m r)) ∙ found) in
           let n = at .index in
-          let here : numberIn r F n (getD rs n []) ≡ some (g .number) = rw zero-add at (at .refused) in
+          let here : numberIn (getD m 0 0) r F n (getD rs n []) ≡ some (g .number) = rw zero-add at (at .refused) in
           let (is, within) = judged-placed r (sectionOf m r) n (at .there) in
           let start : g .start ≡ placeOf n rs = omega (arith, at .start-is) in
           let bytes : take (g .size) (drop (g .start) (sectionOf m r)) ≡ recordIn m r n = cc (is, start, at .size-is) in
-          let (wrong, least) = number-some r F n (recordIn m r n) (g .number) here in
+          let (wrong, least) = number-some (getD m 0 0) r F n (recordIn m r n) (g .number) here in
           record {
             within = omega (arith, at .size-is, within);
             cause = rw bytes
                 (ModelCause.wrong r there before (fits-is m _ fit) n (at .there)
-                (λ i j l w. number-none r F i (recordIn m r i) (rw zero-add at (at .earlier i l)) j w)
+                (λ i j l w. number-none (getD m 0 0) r F i (recordIn m r i) (rw zero-add at (at .earlier i l)) j w)
                 wrong least);
           }
 
@@ -84,14 +84,14 @@ module _ (m : List ℕ) (r : Role) (there : There m r) (before : RightBefore m r
 module _ (F : ℕ) (file : List ℕ) (f : Fault) where
   -- the sections of these roles, from section j on, have no fault before section i of them
   abbrev Clear : List Role → ℕ → ℕ → Type 0
-  Clear rs j i = (q : ℕ) → q < i → inSection (reader (getD rs q Goals) F) file (sectionAt file (j + q)) ≡ none
+  Clear rs j i = (q : ℕ) → q < i → inSection (reader (getD file 0 0) (getD rs q Goals) F) file (sectionAt file (j + q)) ≡ none
 
   -- there is the fault
   record Stop (rs : List Role) (j : ℕ) : Type 0 where
     index : ℕ
     clear : Clear rs j index
     here : ((index < length rs)
-        × (inSection (reader (getD rs index Goals) F) file (sectionAt file (j + index)) ≡ some f))
+        × (inSection (reader (getD file 0 0) (getD rs index Goals) F) file (sectionAt file (j + index)) ≡ some f))
         ⊎ ((index ≡ length rs) × (leftOver file (sectionAt file (j + index)) ≡ some f))
 
   stops : (rs : List Role) (j : ℕ) → faultFrom rs F file (sectionAt file j) ≡ some f → Stop rs j
@@ -99,8 +99,8 @@ module _ (F : ℕ) (file : List ℕ) (f : Fault) where
   stops [] j e = record { index = 0; clear = λ q l. absurd (omega arith); here = inr (refl, rw (add-zero j) e) }
   stops (r ∷ rs) j e = go (either-found _ _ f e) (stops rs (suc j))
     where
-      go : (inSection (reader r F) file (sectionAt file j) ≡ some f)
-          ⊎ ((inSection (reader r F) file (sectionAt file j) ≡ none)
+      go : (inSection (reader (getD file 0 0) r F) file (sectionAt file j) ≡ some f)
+          ⊎ ((inSection (reader (getD file 0 0) r F) file (sectionAt file j) ≡ none)
           × (faultFrom rs F file (sectionAt file (suc j)) ≡ some f))
           → (faultFrom rs F file (sectionAt file (suc j)) ≡ some f → Stop rs (suc j)) → Stop (r ∷ rs) j
       go (inl here) later =
@@ -114,9 +114,9 @@ module _ (F : ℕ) (file : List ℕ) (f : Fault) where
             here = rw same (⊎-elim (λ (l, h). inl (omega arith, h)) (λ (l, h). inr (omega arith, h)) (s .here));
           }
         where
-          passed : inSection (reader r F) file (sectionAt file j) ≡ none → {i : ℕ} (q : ℕ) → q < suc i
+          passed : inSection (reader (getD file 0 0) r F) file (sectionAt file j) ≡ none → {i : ℕ} (q : ℕ) → q < suc i
               → Clear rs (suc j) i
-              → inSection (reader (getD (r ∷ rs) q Goals) F) file (sectionAt file (j + q)) ≡ none
+              → inSection (reader (getD file 0 0) (getD (r ∷ rs) q Goals) F) file (sectionAt file (j + q)) ≡ none
           passed fine zero l clear = rw (add-zero j) fine
           passed fine (suc q) l clear =
               let same : j + suc q ≡ suc j + q = omega arith in
@@ -129,7 +129,7 @@ unfolding sectionAt
 reached m f some-byte zero clear = some-byte
 reached m f some-byte (suc i) clear =
     let fine = rw zero-add at (clear i (omega arith)) in
-    let (fit, _) = section-fine (reader (getD (rolesOf m) i Goals) (factCount m)) m (sectionAt m i) fine in
+    let (fit, _) = section-fine (reader (getD m 0 0) (getD (rolesOf m) i Goals) (factCount m)) m (sectionAt m i) fine in
     fits-within m (sectionAt m i) fit .1
 
 -- The fault of a model that has a byte has its cause.
@@ -147,11 +147,11 @@ model-cause m some-byte f e = ⊎-elim there left (s .here)
     right : (q : Role) → indexOf q rs < s .index → There m q → RightSection m q
     right q l there-q =
         let fine = rw (zero-add, role-there rs q there-q) at (s .clear (indexOf q rs) l) in
-        let (fit, none-found) = section-fine (reader q (factCount m)) m (placeOfRole m q) fine in
+        let (fit, none-found) = section-fine (reader (getD m 0 0) q (factCount m)) m (placeOfRole m q) fine in
         right-section m q fit (rw (section-there m q there-q) none-found)
 
     there : (s .index < length rs)
-        × (inSection (reader (getD rs (s .index) Goals) (factCount m)) m (sectionAt m (0 + s .index)) ≡ some f)
+        × (inSection (reader (getD m 0 0) (getD rs (s .index) Goals) (factCount m)) m (sectionAt m (0 + s .index)) ≡ some f)
         → Found m (ModelCause m) f
     there (l, found) =
         let r = getD rs (s .index) Goals in

@@ -1,4 +1,4 @@
--- The causes of 2 to 9 in the words of document 01's table, each with its bytes at fault and with nothing there that
+-- The causes of 2 to 9 and 12 in the words of document 01's table, each with its bytes at fault and with nothing there that
 -- comes before it in the order ("Verdict numbers and the order", "the bytes at fault"). How a fault is looked for is
 -- another definition, `pairFault`; proofs/Causes.antt shows that what it finds has its cause here.
 use Prim.Native.Nat.{ℕ, suc, _+_, _%_, _≤_, _<_}
@@ -7,14 +7,15 @@ use mathlib.Core.Logic.{_⊎_}
 use mathlib.Core.List.{List, [], _∷_}
 use mathlib.Core.Option.{none, some}
 use lib.ListN.{length, take, drop, getD}
-use Rattle.sets.specs.Sets.{_∈_}
+use lib.Dec.{eqb}
+use Rattle.sets.specs.Sets.{first, _∈_}
 use Rattle.records.specs.Words.{word, words}
 use Rattle.records.specs.Records.{records, listsOf}
 use Rattle.records.specs.declared.Kind.{Kind}
 use Rattle.records.specs.declared.Kind.the-variants as kind
 use Rattle.sections.specs.Sections.{long, endAt, sectionAt}
 use Rattle.sections.specs.declared.Role.{Role}
-use Rattle.sections.specs.declared.Role.the-variants.{Sizes, Initial, Persistent, Clauses, Rules, Goals}
+use Rattle.sections.specs.declared.Role.the-variants.{Sizes, Initial, Persistent, Names, Clauses, Rules, Goals}
 use Rattle.files.specs.Files.{rolesOf, tag, There, placeOfRole, sectionOf, factCount, entriesOf, modelOf, traceOf}
 
 -- ---- what can be wrong with a record, by number
@@ -28,44 +29,71 @@ pub data WrongSizes (bytes : List ℕ) : ℕ → Type 0 where
   shape : (length bytes ≡ 2 → ⊥) → WrongSizes bytes 4
   count : 4096 < word bytes → WrongSizes bytes 5
 
--- "initial facts: 2 bytes each", "a fact number of F or more", "strictly ascending"; persistent facts are "judged like
--- the initial facts" (document 02, wish 2)
-pub data WrongFacts (F : ℕ) (bytes : List ℕ) : ℕ → Type 0 where
-  shape : length bytes % 2 ≡ 1 → WrongFacts F bytes 4
-  fact : (f : ℕ) → f ∈ words bytes → F ≤ f → WrongFacts F bytes 6
-  order : Unordered (words bytes) → WrongFacts F bytes 7
+-- "initial facts: 2 bytes each", "strictly ascending", and none of them the limit or more, which has a number of its own
+pub data WrongNumbers (number limit : ℕ) (bytes : List ℕ) : ℕ → Type 0 where
+  shape : length bytes % 2 ≡ 1 → WrongNumbers number limit bytes 4
+  large : (n : ℕ) → n ∈ words bytes → limit ≤ n → WrongNumbers number limit bytes number
+  order : Unordered (words bytes) → WrongNumbers number limit bytes 7
+
+-- "a fact number of F or more"; persistent facts are "judged like the initial facts" (document 02, wish 2)
+abbrev pub WrongFacts : ℕ → List ℕ → ℕ → Type 0
+WrongFacts F = WrongNumbers 6 F
+
+-- "a name over 1,023 is 12 BADNAME" (wish 9)
+abbrev pub WrongNames : List ℕ → ℕ → Type 0
+WrongNames = WrongNumbers 12 1024
 
 -- "a length or count that doesn't fit .. bytes left over": the record isn't its lists, written (proofs/Written.antt
 -- has that: `rule-shape`, `goal-shape`, `clause-shape`); "a bound above passed" by its number or by one of its lists;
--- "a fact number of F or more"; "a list not strictly ascending"
+-- "a fact number of F or more" in one of the first three; "a name over 1,023" in a fourth (document 02, wish 9); "a list
+-- not strictly ascending"
 pub data WrongRecord (K : Kind) (most longest F n : ℕ) (r : List ℕ) : ℕ → Type 0 where
   shape : listsOf K r ≡ none → WrongRecord K most longest F n r 4
   count : most ≤ n → WrongRecord K most longest F n r 5
   longer : {lists : List (List ℕ)} → listsOf K r ≡ some lists → (l : List ℕ) → l ∈ lists → longest < length l
       → WrongRecord K most longest F n r 5
-  fact : {lists : List (List ℕ)} → listsOf K r ≡ some lists → (l : List ℕ) → l ∈ lists → (f : ℕ) → f ∈ l → F ≤ f
-      → WrongRecord K most longest F n r 6
+  fact : {lists : List (List ℕ)} → listsOf K r ≡ some lists → (l : List ℕ) → l ∈ take 3 lists
+      → (f : ℕ) → f ∈ l → F ≤ f → WrongRecord K most longest F n r 6
+  name : {lists : List (List ℕ)} → listsOf K r ≡ some lists → (l : List ℕ) → l ∈ drop 3 lists
+      → (a : ℕ) → a ∈ l → 1024 ≤ a → WrongRecord K most longest F n r 12
   order : {lists : List (List ℕ)} → listsOf K r ≡ some lists → (l : List ℕ) → l ∈ lists → Unordered l
       → WrongRecord K most longest F n r 7
 
--- record n of a section of a role, in a model of F facts: "Clauses 4,096, body facts 16. Rules 2,048, attack states 64,
--- each list 32."
-abbrev pub Wrong : Role → ℕ → ℕ → List ℕ → ℕ → Type 0
-Wrong Sizes F n r = WrongSizes r
-Wrong Initial F n r = WrongFacts F r
-Wrong Persistent F n r = WrongFacts F r
-Wrong Clauses F n r = WrongRecord kind.Clause 4096 16 F n r
-Wrong Rules F n r = WrongRecord kind.Rule 2048 32 F n r
-Wrong Goals F n r = WrongRecord kind.Goal 64 32 F n r
+-- the kinds of rules: from version 3 on they have a fourth list (document 02, wish 9)
+pub data RuleKind (version : ℕ) : Kind → Type 0 where
+  three : version < 3 → RuleKind version kind.Rule
+  four : 3 ≤ version → RuleKind version kind.Maker
+
+-- record n of a section of a role, in a model of a version and of F facts: "Clauses 4,096, body facts 16. Rules 2,048,
+-- attack states 64, each list 32."
+abbrev pub Wrong : ℕ → Role → ℕ → ℕ → List ℕ → ℕ → Type 0
+Wrong version Sizes F n r k = WrongSizes r k
+Wrong version Initial F n r k = WrongFacts F r k
+Wrong version Persistent F n r k = WrongFacts F r k
+Wrong version Names F n r k = WrongNames r k
+Wrong version Clauses F n r k = WrongRecord kind.Clause 4096 16 F n r k
+Wrong version Rules F n r k = (K : Kind) × RuleKind version K × WrongRecord K 2048 32 F n r k
+Wrong version Goals F n r k = WrongRecord kind.Goal 64 32 F n r k
+
+-- "Within a record 4 comes before 5, 5 before 6, 6 before 7"; 12 comes "right after FACT within a record" (document 02,
+-- wish 9)
+unfoldable pub passes : List ℕ
+passes = 4 ∷ 5 ∷ 6 ∷ 12 ∷ 7 ∷ []
+
+-- the turn of a number among them
+unfoldable pub turn : ℕ → ℕ
+unfolding passes first
+turn k = first (λ i. eqb (getD passes i 0) k) (length passes)
 
 -- ---- the model, in file order
 
--- "Sizes and initial facts count as one record each, whose bytes are the section's."; so do persistent facts
+-- "Sizes and initial facts count as one record each, whose bytes are the section's."; so do persistent facts and names
 unfoldable pub judgedRecords : Role → List ℕ → List (List ℕ)
 unfolding records
 judgedRecords Sizes bytes = bytes ∷ []
 judgedRecords Initial bytes = bytes ∷ []
 judgedRecords Persistent bytes = bytes ∷ []
+judgedRecords Names bytes = bytes ∷ []
 judgedRecords Clauses bytes = records bytes
 judgedRecords Rules bytes = records bytes
 judgedRecords Goals bytes = records bytes
@@ -76,7 +104,7 @@ recordIn m r n = getD (judgedRecords r (sectionOf m r)) n []
 
 -- this is wrong with it
 abbrev pub WrongIn : List ℕ → Role → ℕ → ℕ → Type 0
-WrongIn m r n k = Wrong r (factCount m) n (recordIn m r n) k
+WrongIn m r n k = Wrong (getD m 0 0) r (factCount m) n (recordIn m r n) k
 
 -- the section whose length stands at a place ends within the file
 unfoldable pub Fits : List ℕ → ℕ → Type 0
@@ -96,16 +124,16 @@ RightBefore m r = (q : Role) → There m q → tag q < tag r → RightSection m 
 abbrev pub modelEnd : List ℕ → ℕ
 modelEnd m = sectionAt m (length (rolesOf m))
 
--- 4 to 7 for the model, "at the first fault in file order", with the bytes at fault: "where a section's length
--- doesn't fit: the rest of the file, from that length on"; otherwise the record, of whose faults the one with the
--- smallest number is given; "after the last section: those bytes". A record whose length doesn't fit is the rest of
+-- 4 to 7 and 12 for the model, "at the first fault in file order", with the bytes at fault: "where a section's length
+-- doesn't fit: the rest of the file, from that length on"; otherwise the record, of whose faults the one whose turn is
+-- first is given; "after the last section: those bytes". A record whose length doesn't fit is the rest of
 -- its section (`record-or-rest` in proofs/Found.antt).
 pub data ModelCause (m : List ℕ) : ℕ → List ℕ → Type 0 where
   unfit : (r : Role) → There m r → RightBefore m r → (Fits m (placeOfRole m r) → ⊥)
       → ModelCause m 4 (drop (placeOfRole m r) m)
   wrong : {k : ℕ} (r : Role) → There m r → RightBefore m r → Fits m (placeOfRole m r)
       → (n : ℕ) → n < length (judgedRecords r (sectionOf m r)) → ((i j : ℕ) → i < n → WrongIn m r i j → ⊥)
-      → WrongIn m r n k → ((j : ℕ) → j < k → WrongIn m r n j → ⊥) → ModelCause m k (recordIn m r n)
+      → WrongIn m r n k → ((j : ℕ) → turn j < turn k → WrongIn m r n j → ⊥) → ModelCause m k (recordIn m r n)
   after : ((q : Role) → There m q → RightSection m q) → modelEnd m < length m → ModelCause m 4 (drop (modelEnd m) m)
 
 -- none of them is there
@@ -144,14 +172,14 @@ pub data TraceCause (m t : List ℕ) : ℕ → List ℕ → Type 0 where
 
 -- ---- the pair
 
--- "a file empty, or first byte not 1", for a model "neither 1 nor 2" (document 02, wish 2): otherwise it starts with
+-- "a file empty, or first byte not 1", for a model nor 2 nor 3 (document 02, wishes 2 and 9): otherwise it starts with
 -- one of the versions
 unfoldable pub Starts : List ℕ → List ℕ → Type 0
 Starts versions file = (v : ℕ) × (v ∈ versions) × (rest : List ℕ) × (file ≡ v ∷ rest)
 
 -- the versions of a model, and those of a trace
 abbrev pub ModelStarts : List ℕ → Type 0
-ModelStarts = Starts (1 ∷ 2 ∷ [])
+ModelStarts = Starts (1 ∷ 2 ∷ 3 ∷ [])
 
 abbrev pub TraceStarts : List ℕ → Type 0
 TraceStarts = Starts (1 ∷ [])
@@ -168,7 +196,8 @@ pub record RightHeads (m t : List ℕ) : Type 0 where
   pub trace : TraceStarts t
 
 -- the cause of a refusal: the mark of the file at fault (0 the model, 1 the trace), the number and the bytes. "2
--- (model, then trace); 3 (model, then trace); then 4 to 7 for the model .. Then 4 for the trace .., then 5, then 9";
+-- (model, then trace); 3 (model, then trace); then 4 to 7 for the model .. Then 4 for the trace .., then 5, then 9", and
+-- 12 with the model's (document 02, wish 9);
 -- for 2 "the whole file", for 3 "the first byte, or the empty part of an empty file"
 pub data Cause (m t : List ℕ) : ℕ → ℕ → List ℕ → Type 0 where
   long-model : 65536 < length m → Cause m t 0 2 m
@@ -188,3 +217,7 @@ pub record RightPair (m t : List ℕ) : Type 0 where
   pub count : length (traceOf t .steps) ≤ 1024
   pub goal : traceOf t .goal < length (modelOf m .goals)
   pub rules : (i : ℕ) → i < length (traceOf t .steps) → getD (traceOf t .steps) i 0 < length (modelOf m .rules)
+
+-- the numbers that refuse a pair of files: "2 .. 9" of document 01's table and 12 (document 02, wish 9)
+abbrev pub Refusing : ℕ → Type 0
+Refusing k = ((2 ≤ k) × (k ≤ 9)) ⊎ (k ≡ 12)

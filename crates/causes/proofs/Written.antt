@@ -21,8 +21,10 @@ use Rattle.records.proofs.Words.{length-words, odd-is, words-two}
 use Rattle.records.proofs.Judging.{lists-cut, lists-none, or-clear}
 use Rattle.records.proofs.Lists.{cut-next, cut-short}
 use Rattle.lists.specs.Lists.{Cut}
+use Rattle.sections.specs.Sections.{ruleKind}
 use Rattle.files.specs.Files.{clauseOf, ruleIn, goalIn}
-use Rattle.causes.specs.Written.{twoBytes, factBytes, listBytes, recordBytes, clauseBytes, ruleBytes, goalBytes}
+use Rattle.causes.specs.Written.{twoBytes, factBytes, listBytes, recordBytes, clauseBytes, ruleBytes, makerBytes}
+use Rattle.causes.specs.Written.{goalBytes}
 
 -- each is a byte
 abbrev pub AllBytes : List ℕ → Type 0
@@ -116,6 +118,15 @@ three-lists x =
     (append-assoc (listBytes (x .P)) (listBytes (x .N)) (listBytes (x .A))
     ∙ ap (λ (l : List ℕ). listBytes (x .P) ++ (listBytes (x .N) ++ l)) (sym (append-nil (listBytes (x .A)))))
 
+four-lists : (x : Rule) → makerBytes x ≡ recordBytes (flatMap listBytes (x .P ∷ x .N ∷ x .A ∷ x .names ∷ []))
+unfolding makerBytes flatMap
+four-lists x =
+    let four = listBytes (x .names) in
+    ap recordBytes
+    (append-assoc (listBytes (x .P) ++ listBytes (x .N)) (listBytes (x .A)) four
+    ∙ append-assoc (listBytes (x .P)) (listBytes (x .N)) (listBytes (x .A) ++ four)
+    ∙ ap (λ (l : List ℕ). listBytes (x .P) ++ (listBytes (x .N) ++ (listBytes (x .A) ++ l))) (sym (append-nil four)))
+
 two-lists : (p n : List ℕ) → goalBytes (record { P = p; N = n }) ≡ recordBytes (flatMap listBytes (p ∷ n ∷ []))
 unfolding goalBytes flatMap
 two-lists p n = ap (λ (l : List ℕ). recordBytes (listBytes p ++ l)) (sym (append-nil (listBytes n)))
@@ -125,6 +136,11 @@ rule-of : (r p n a : List ℕ) → listsOf kind.Rule r ≡ some (p ∷ n ∷ a �
     → ruleIn 1 r ≡ record { P = p; N = n; A = a; names = [] }
 unfolding ruleIn listOf
 rule-of r p n a e = rw e
+
+maker-of : (r p n a x : List ℕ) → listsOf kind.Maker r ≡ some (p ∷ n ∷ a ∷ x ∷ [])
+    → ruleIn 3 r ≡ record { P = p; N = n; A = a; names = x }
+unfolding ruleIn ruleKind listOf
+maker-of r p n a x e = rw e
 
 goal-of : (r p n : List ℕ) → listsOf kind.Goal r ≡ some (p ∷ n ∷ []) → goalIn r ≡ record { P = p; N = n }
 unfolding goalIn listOf
@@ -166,6 +182,23 @@ module _ (r : List ℕ) (b : AllBytes r) where
       rule-is (p ∷ n ∷ []) e h = absurd (omega arith)
       rule-is (p ∷ n ∷ a ∷ []) e h = ap ruleBytes (rule-of r p n a e) ∙ three-lists _
       rule-is (p ∷ n ∷ a ∷ x ∷ xs) e h = absurd (omega arith)
+
+  -- So is that of a rule with a fourth list.
+  pub maker-written : Cut kind.Maker r → makerBytes (ruleIn 3 r) ≡ r
+  unfolding Cut cut
+  maker-written (lists, e) =
+      let (whole, is) = opened kind.Maker lists e in
+      let (written, count) = shape-written 4 lists whole is in
+      maker-is lists e count ∙ written
+    where
+      maker-is : (lists : List (List ℕ)) → listsOf kind.Maker r ≡ some lists → length lists ≡ 4
+          → makerBytes (ruleIn 3 r) ≡ recordBytes (flatMap listBytes lists)
+      maker-is [] e h = absurd (omega arith)
+      maker-is (p ∷ []) e h = absurd (omega arith)
+      maker-is (p ∷ n ∷ []) e h = absurd (omega arith)
+      maker-is (p ∷ n ∷ a ∷ []) e h = absurd (omega arith)
+      maker-is (p ∷ n ∷ a ∷ x ∷ []) e h = ap makerBytes (maker-of r p n a x e) ∙ four-lists _
+      maker-is (p ∷ n ∷ a ∷ x ∷ y ∷ ys) e h = absurd (omega arith)
 
   -- So is an attack state's.
   pub goal-written : Cut kind.Goal r → goalBytes (goalIn r) ≡ r
@@ -267,6 +300,12 @@ unfolding cut
 rule-lists x =
     ap (listsOf kind.Rule) (three-lists x) ∙ shape-read kind.Rule (x .P ∷ x .N ∷ x .A ∷ []) (λ _. refl)
 
+maker-lists : (x : Rule) → listsOf kind.Maker (makerBytes x) ≡ some (x .P ∷ x .N ∷ x .A ∷ x .names ∷ [])
+unfolding cut
+maker-lists x =
+    ap (listsOf kind.Maker) (four-lists x)
+    ∙ shape-read kind.Maker (x .P ∷ x .N ∷ x .A ∷ x .names ∷ []) (λ _. refl)
+
 goal-lists : (x : Goal) → listsOf kind.Goal (goalBytes x) ≡ some (x .P ∷ x .N ∷ [])
 unfolding cut
 goal-lists x = ap (listsOf kind.Goal) (two-lists (x .P) (x .N)) ∙ shape-read kind.Goal (x .P ∷ x .N ∷ []) (λ _. refl)
@@ -296,6 +335,10 @@ module _ (r : List ℕ) (b : AllBytes r) where
   pub rule-shape : Cut kind.Rule r ↔ ((x : Rule) × (ruleBytes x ≡ r))
   unfolding Cut
   rule-shape = (λ c. (ruleIn 1 r, rule-written r b c), λ (x, e). (_, rw e at (rule-lists x)))
+
+  pub maker-shape : Cut kind.Maker r ↔ ((x : Rule) × (makerBytes x ≡ r))
+  unfolding Cut
+  maker-shape = (λ c. (ruleIn 3 r, maker-written r b c), λ (x, e). (_, rw e at (maker-lists x)))
 
   pub goal-shape : Cut kind.Goal r ↔ ((x : Goal) × (goalBytes x ≡ r))
   unfolding Cut

@@ -44,7 +44,8 @@ abbrev pub WrongNames : List ℕ → ℕ → Type 0
 WrongNames = WrongNumbers 12 1024
 
 -- "a length or count that doesn't fit .. bytes left over": the record isn't its lists, written (proofs/Written.antt
--- has that: `rule-shape`, `goal-shape`, `clause-shape`); "a bound above passed" by its number or by one of its lists;
+-- has that: `rule-shape`, `maker-shape`, `goal-shape`, `clause-shape`); "a bound above passed" by its number or by one
+-- of its lists;
 -- "a fact number of F or more" in one of the first three; "a name over 1,023" in a fourth (document 02, wish 9); "a list
 -- not strictly ascending"
 pub data WrongRecord (K : Kind) (most longest F n : ℕ) (r : List ℕ) : ℕ → Type 0 where

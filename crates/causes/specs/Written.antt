@@ -36,6 +36,16 @@ unfoldable pub ruleBytes : Rule → List ℕ
 unfolding recordBytes listBytes
 ruleBytes r = recordBytes (listBytes (r .P) ++ listBytes (r .N) ++ listBytes (r .A))
 
+-- "and a fourth list in each rule, the names it makes, .. 2 bytes a name" (document 02, wish 9)
+unfoldable pub makerBytes : Rule → List ℕ
+unfolding recordBytes listBytes
+makerBytes r = recordBytes (listBytes (r .P) ++ listBytes (r .N) ++ listBytes (r .A) ++ listBytes (r .names))
+
+-- a rule of a model of a version
+unfoldable pub ruleBytesIn : ℕ → Rule → List ℕ
+unfolding makerBytes ruleBytes
+ruleBytesIn version r = cond (leb 3 version) (makerBytes r) (ruleBytes r)
+
 -- "an attack state two, P and N"
 unfoldable pub goalBytes : Goal → List ℕ
 unfolding recordBytes listBytes
@@ -46,23 +56,25 @@ unfoldable pub sectionBytes : List ℕ → List ℕ
 unfolding twoBytes
 sectionBytes bytes = twoBytes (length bytes / 65536) ++ twoBytes (length bytes % 65536) ++ bytes
 
--- "Model version 2 has one more section" (document 02, wish 2): the sections after the initial facts that version 1
--- lacks
+-- "Model version 2 has one more section" (document 02, wish 2), version 3 "a section of names in use at the start, after
+-- the persistent facts" (wish 9): the sections after the initial facts that version 1 lacks
 unfoldable pub laterSections : ℕ → Model → List ℕ
 unfolding sectionBytes factBytes
-laterSections version m = cond (leb 2 version) (sectionBytes (factBytes (m .persistent))) []
+laterSections version m =
+    cond (leb 2 version) (sectionBytes (factBytes (m .persistent))) []
+    ++ cond (leb 3 version) (sectionBytes (factBytes (m .names))) []
 
 -- "A file starts with a version byte", "Model sections, in order: 1. sizes .. 2. initial facts .. 3. clauses; 4. rules;
 -- 5. attack states: records."
 unfoldable pub writtenModel : ℕ → Model → List ℕ
-unfolding sectionBytes twoBytes factBytes flatMap laterSections clauseBytes ruleBytes goalBytes
+unfolding sectionBytes twoBytes factBytes flatMap laterSections clauseBytes ruleBytesIn goalBytes
 writtenModel version m =
     version
     ∷ sectionBytes (twoBytes (m .F))
     ++ sectionBytes (factBytes (m .initial))
     ++ laterSections version m
     ++ sectionBytes (flatMap clauseBytes (m .clauses))
-    ++ sectionBytes (flatMap ruleBytes (m .rules))
+    ++ sectionBytes (flatMap (ruleBytesIn version) (m .rules))
     ++ sectionBytes (flatMap goalBytes (m .goals))
 
 -- "The trace has one section: an attack state number and then rule numbers, 2 bytes each."

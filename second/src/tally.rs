@@ -22,8 +22,9 @@ struct Seen<'a> {
 struct Named {
     /// The step that doesn't fire makes a name that is used.
     again: bool,
-    /// One that was in use at the start, and not its list's first.
+    /// The verdict's name was in use at the start.
     from_start: bool,
+    /// It isn't the first of its list.
     later: bool,
     /// Names are used at the end.
     left: bool,

@@ -5,7 +5,7 @@
 
 int main(void)
 {
-    static uint8_t state[512], part[4];
+    static uint8_t state[512], part[4], names[128];
     static uint16_t table[4096];
     static const uint8_t file[5] = {1, 0, 0, 0, 0};
     /* 5 facts; clauses 0, 1 and 2 from nothing; two rules and one attack state without conditions */
@@ -15,11 +15,15 @@ int main(void)
     memset(state, JUNK, sizeof state);
     memset(part, JUNK, sizeof part);
     memset(table, JUNK, sizeof table);
+    memset(names, JUNK, sizeof names);
     memset(out, JUNK, sizeof out);
     /* No room for the verdict: nothing is changed, `out` included. */
-    expect("no out", cantivorex_safe_check(file, 5, file, 5, state, 512, table, 4096, NULL, 10), CANTIVOREX_ROOM);
-    expect("a short out", cantivorex_safe_check(file, 5, file, 5, state, 512, table, 4096, out, 9), CANTIVOREX_ROOM);
-    expect("all null", cantivorex_safe_check(NULL, 9, NULL, 9, NULL, 512, NULL, 4096, NULL, 10), CANTIVOREX_ROOM);
+    expect("no out",
+        cantivorex_safe_check(file, 5, file, 5, state, 512, table, 4096, names, 128, NULL, 10), CANTIVOREX_ROOM);
+    expect("a short out",
+        cantivorex_safe_check(file, 5, file, 5, state, 512, table, 4096, names, 128, out, 9), CANTIVOREX_ROOM);
+    expect("all null",
+        cantivorex_safe_check(NULL, 9, NULL, 9, NULL, 512, NULL, 4096, NULL, 128, NULL, 10), CANTIVOREX_ROOM);
     expect("no out to close", cantivorex_safe_close(file, 5, state, 512, table, 4096, NULL, 1), CANTIVOREX_ROOM);
     expect("no model to close", cantivorex_safe_close(NULL, 5, state, 512, table, 4096, out, 10), CANTIVOREX_VERSION);
     expect("no state to close", cantivorex_safe_close(file, 5, NULL, 512, table, 4096, out, 10), CANTIVOREX_ROOM);
@@ -34,6 +38,7 @@ int main(void)
     expect("another mark", cantivorex_safe_part(file, 5, file, 5, 2, 0, 5, part, 4), 0);
     expect("a place beyond", cantivorex_safe_part(file, 5, file, 5, 1, SIZE_MAX, SIZE_MAX, part, 4), 0);
     expect("nothing written", all(state, sizeof state, JUNK) && all(table, sizeof table, JUNK), 1);
+    expect("no name written", all(names, sizeof names, JUNK), 1);
     expect("nothing written out", all(out, sizeof out, JUNK) && all(part, sizeof part, JUNK), 1);
     /* A part is copied as far as there is room. */
     expect("no room for a part", cantivorex_safe_part(file, 5, NULL, 0, 0, 0, SIZE_MAX, NULL, 4), 5);
@@ -47,15 +52,24 @@ int main(void)
     expect("its attack states", out[CANTIVOREX_HAS_GOALS], 1);
     expect("nothing after them", all(out + CANTIVOREX_HAS_ENTRIES, 6 * sizeof *out, JUNK), 1);
     /* Room for the verdict: the refusal is written there. */
-    expect("no state", cantivorex_safe_check(file, 5, file, 5, NULL, 512, table, 4096, out, 10), CANTIVOREX_ROOM);
-    expect("no table", cantivorex_safe_check(file, 5, file, 5, state, 512, NULL, 4096, out, 10), CANTIVOREX_ROOM);
-    expect("no table, written", out[CANTIVOREX_OUT_NUMBER], CANTIVOREX_ROOM);
-    expect("no table's kind", out[CANTIVOREX_OUT_KIND], CANTIVOREX_KIND_NONE);
-    expect("no table's round", out[CANTIVOREX_OUT_ROUND], CANTIVOREX_NONE);
-    expect("no model", cantivorex_safe_check(NULL, 5, file, 5, state, 512, table, 4096, out, 10), CANTIVOREX_VERSION);
+    expect("no state",
+        cantivorex_safe_check(file, 5, file, 5, NULL, 512, table, 4096, names, 128, out, 10), CANTIVOREX_ROOM);
+    expect("no table",
+        cantivorex_safe_check(file, 5, file, 5, state, 512, NULL, 4096, names, 128, out, 10), CANTIVOREX_ROOM);
+    expect("no names",
+        cantivorex_safe_check(file, 5, file, 5, state, 512, table, 4096, NULL, 128, out, 10), CANTIVOREX_ROOM);
+    expect("127 bytes for names",
+        cantivorex_safe_check(file, 5, file, 5, state, 512, table, 4096, names, 127, out, 10), CANTIVOREX_ROOM);
+    expect("no names, written", out[CANTIVOREX_OUT_NUMBER], CANTIVOREX_ROOM);
+    expect("no names' kind", out[CANTIVOREX_OUT_KIND], CANTIVOREX_KIND_NONE);
+    expect("no names' round", out[CANTIVOREX_OUT_ROUND], CANTIVOREX_NONE);
+    expect("no model",
+        cantivorex_safe_check(NULL, 5, file, 5, state, 512, table, 4096, names, 128, out, 10), CANTIVOREX_VERSION);
     expect("no model's part", out[CANTIVOREX_OUT_SIZE], 0);
-    expect("no trace", cantivorex_safe_check(file, 5, NULL, 5, state, 512, table, 4096, out, 10), CANTIVOREX_VERSION);
+    expect("no trace",
+        cantivorex_safe_check(file, 5, NULL, 5, state, 512, table, 4096, names, 128, out, 10), CANTIVOREX_VERSION);
     expect("no trace's mark", out[CANTIVOREX_OUT_MARK], 1);
     expect("nothing changed", all(state, sizeof state, JUNK) && all(table, sizeof table, JUNK), 1);
+    expect("no name changed", all(names, sizeof names, JUNK), 1);
     return summary();
 }

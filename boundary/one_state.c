@@ -1,5 +1,5 @@
-/* One state buffer, used again and again and longer than it has to be: a step that is blocked at the end of a trace
-   leaves the state before it, and what lies beyond the state's bytes stays. */
+/* One state buffer and one for names, used again and again and longer than they have to be: a step that does not fire
+   at the end of a trace leaves the state before it, and what lies beyond the bytes of a state stays. */
 #include "../include/cantivorex.h"
 #include "expect.h"
 #include <string.h>
@@ -17,7 +17,20 @@ static const uint8_t model[] = {
     0, 0, 0, 6, 0, 4, 0, 0, 0, 0,                  /* attack state 0: no conditions */
 };
 
-static uint8_t state[700];
+/* No facts; names 5 and 1,023 are in use. Rule 0 makes 3 and 8, rule 1 makes 4 and 5. */
+static const uint8_t minting[] = {
+    3,
+    0, 0, 0, 2, 0, 16,                             /* 16 facts */
+    0, 0, 0, 0, 0, 0, 0, 0,                        /* none is initial, none persistent */
+    0, 0, 0, 4, 0, 5, 3, 0xFF,                     /* names 5 and 1,023 */
+    0, 0, 0, 0,                                    /* no clause */
+    0, 0, 0, 28,
+    0, 12, 0, 0, 0, 0, 0, 0, 0, 2, 0, 3, 0, 8,     /* rule 0: makes 3 and 8 */
+    0, 12, 0, 0, 0, 0, 0, 0, 0, 2, 0, 4, 0, 5,     /* rule 1: makes 4, and 5, which is used */
+    0, 0, 0, 6, 0, 4, 0, 0, 0, 0,                  /* attack state 0: no conditions */
+};
+
+static uint8_t state[700], names[200];
 static uint16_t table[5000];
 
 /* Rule 0 and then another: blocked at step 1, by a fact of a kind. */
@@ -28,8 +41,8 @@ static void blocked_by(uint8_t rule, uint64_t fact, uint64_t kind, uint64_t roun
     uint8_t before[CANTIVOREX_STATE_BYTES] = {0};
     before[0] = 1 << 3; /* fact 3 */
     before[1] = 1 << 1; /* fact 9 */
-    cantivorex_safe_check(
-        model, sizeof model, trace, sizeof trace, state, sizeof state, table, 5000, out, CANTIVOREX_OUT_ENTRIES);
+    cantivorex_safe_check(model, sizeof model, trace, sizeof trace, state, sizeof state, table, 5000, names,
+        sizeof names, out, CANTIVOREX_OUT_ENTRIES);
     expect("the last step is blocked", out[CANTIVOREX_OUT_NUMBER], CANTIVOREX_BLOCKED);
     expect("its number", out[CANTIVOREX_OUT_STEP], 1);
     expect("by this fact", out[CANTIVOREX_OUT_FACT], fact);
@@ -42,13 +55,42 @@ static void blocked_by(uint8_t rule, uint64_t fact, uint64_t kind, uint64_t roun
     expect("the round of a derived fact", table[2], 1);
     expect("the round of a fact that rule 0 took", table[0], CANTIVOREX_NONE);
     expect("the entries beyond 4,096 stay", all(table + 4096, sizeof table - 2 * 4096, JUNK), 1);
+    expect("version 1 uses no name", all(names, 128, 0), 1);
+    expect("the bytes beyond the names stay", all(names + 128, sizeof names - 128, JUNK), 1);
+}
+
+/* Rule 0 and then another, which makes a name that is used. What an earlier check used says nothing. */
+static void used_by(uint8_t rule, uint64_t name)
+{
+    const uint8_t trace[] = {1, 0, 0, 0, 6, 0, 0, 0, 0, 0, rule};
+    uint64_t out[CANTIVOREX_OUT_ENTRIES];
+    uint8_t before[CANTIVOREX_NAMES_BYTES] = {0};
+    before[0] = 1 << 3 | 1 << 5; /* names 3 and 5 */
+    before[1] = 1 << 0;          /* name 8 */
+    before[127] = 1 << 7;        /* name 1,023 */
+    cantivorex_safe_check(minting, sizeof minting, trace, sizeof trace, state, sizeof state, table, 5000, names,
+        sizeof names, out, CANTIVOREX_OUT_ENTRIES);
+    expect("the last step's name is used", out[CANTIVOREX_OUT_NUMBER], CANTIVOREX_USED);
+    expect("the step's number", out[CANTIVOREX_OUT_STEP], 1);
+    expect("this name", out[CANTIVOREX_OUT_FACT], name);
+    expect("no kind", out[CANTIVOREX_OUT_KIND], CANTIVOREX_KIND_NONE);
+    expect("no round", out[CANTIVOREX_OUT_ROUND], CANTIVOREX_NONE);
+    expect("in the trace", out[CANTIVOREX_OUT_MARK], 1);
+    expect("where the step stands", out[CANTIVOREX_OUT_START], 9);
+    expect("no fact is held", out[CANTIVOREX_OUT_HELD], 0);
+    expect("no fact in the state", all(state, 512, 0), 1);
+    expect("the names before the step", memcmp(names, before, sizeof before), 0);
+    expect("the bytes beyond the names stay", all(names + 128, sizeof names - 128, JUNK), 1);
 }
 
 int main(void)
 {
     memset(state, JUNK, sizeof state);
     memset(table, JUNK, sizeof table);
+    memset(names, JUNK, sizeof names);
     blocked_by(1, 15, CANTIVOREX_KIND_POSITIVE, CANTIVOREX_NONE);
+    used_by(0, 3);
+    used_by(1, 5);
     blocked_by(2, 2, CANTIVOREX_KIND_NEGATIVE, 1);
     return summary();
 }

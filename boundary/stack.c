@@ -18,16 +18,16 @@ struct file {
 };
 
 static struct file model, trace;
-static uint8_t state[CANTIVOREX_STATE_BYTES], part[65537];
+static uint8_t state[CANTIVOREX_STATE_BYTES], names[CANTIVOREX_NAMES_BYTES], part[65537];
 static uint16_t table[CANTIVOREX_TABLE_ENTRIES];
 static uint64_t out[CANTIVOREX_OUT_ENTRIES];
 
 /* What a pair of files is made of, and what the check and the closing answer; the count answers as the closing. A model
-   with persistent facts is of version 2. */
+   with persistent facts is of version 2, one with names in use of version 3. */
 struct pair {
     const char *name;
     uint8_t check, close;
-    size_t clauses, body, steps, last_rule, goal, persistent;
+    size_t clauses, body, steps, last_rule, goal, persistent, names;
     void (*spoil)(void);
 };
 
@@ -74,22 +74,28 @@ static void write_clauses(const struct pair *pair)
 }
 
 /* Three rules, or three attack states, with full lists. The first holds; in the second the last fact of P is missing;
-   in the third the last of N is there, since the last clause gives it. */
+   in the third the last of N is there, since the last clause gives it. Version 3 has a fourth rule, which holds and
+   makes names 991 to 1,021 and 1,023. */
 static void write_conditions(const struct pair *pair, int are_rules)
 {
     size_t section = begin(&model, 4);
-    for (int i = 0; i < 3; i++) {
+    int named = are_rules && pair->names, count = named ? 4 : 3;
+    for (int i = 0; i < count; i++) {
         size_t record = begin(&model, 2);
         list(0, i == 1 ? NEVER : STORED - 1);
         list(STORED, i == 2 ? HEADS + pair->clauses - 1 : NEVER);
         if (are_rules)
             list(0, STORED - 1);
+        if (named && i < 3)
+            word(&model, 0);
+        if (named && i == 3)
+            list(991, 1023);
         end(&model, record, 2);
     }
     end(&model, section, 4);
 }
 
-/* A section of the facts below a number. */
+/* A section of the facts, or names, below a number. */
 static void write_facts(size_t count)
 {
     size_t section = begin(&model, 4);
@@ -100,14 +106,16 @@ static void write_facts(size_t count)
 
 static void write_model(const struct pair *pair)
 {
-    model.bytes[0] = pair->persistent ? 2 : 1;
+    model.bytes[0] = pair->names ? 3 : pair->persistent ? 2 : 1;
     model.len = 1;
     size_t section = begin(&model, 4);
     word(&model, FACTS);
     end(&model, section, 4);
     write_facts(STORED);
-    if (pair->persistent)
+    if (pair->persistent || pair->names)
         write_facts(pair->persistent);
+    if (pair->names)
+        write_facts(pair->names);
     write_clauses(pair);
     write_conditions(pair, 1);
     write_conditions(pair, 0);
@@ -158,25 +166,29 @@ static void end_with_fact_0(void)
 }
 
 static const struct pair pairs[] = {
-    {"a chain of 4,000 clauses", CANTIVOREX_ATTACK, 0, 4000, 1, 2, 0, 0, 0, NULL},
-    {"1,790 bodies of 16 facts", CANTIVOREX_ATTACK, 0, 1790, 16, 2, 0, 0, 0, NULL},
-    {"1,024 steps", CANTIVOREX_ATTACK, 0, 64, 1, 1024, 0, 0, 0, NULL},
-    {"a fact missing in the last step", CANTIVOREX_BLOCKED, 0, 64, 1, 1024, 1, 0, 0, NULL},
-    {"a fact in the last step's way", CANTIVOREX_BLOCKED, 0, 64, 1, 1024, 2, 0, 0, NULL},
-    {"a fact missing in the goal", CANTIVOREX_NOATTACK, 0, 64, 1, 1024, 0, 1, 0, NULL},
-    {"a fact in the goal's way", CANTIVOREX_NOATTACK, 0, 64, 1, 1024, 0, 2, 0, NULL},
-    {"a model of 65,537 bytes", CANTIVOREX_LONG, CANTIVOREX_LONG, 64, 1, 2, 0, 0, 0, make_long},
-    {"an empty trace", CANTIVOREX_VERSION, 0, 64, 1, 2, 0, 0, 0, make_empty},
-    {"a byte after the model", CANTIVOREX_SHAPE, CANTIVOREX_SHAPE, 1790, 16, 2, 0, 0, 0, leave_a_byte},
-    {"4,097 facts", CANTIVOREX_COUNT, CANTIVOREX_COUNT, 64, 1, 2, 0, 0, 0, take_a_fact_more},
-    {"1,025 steps", CANTIVOREX_COUNT, 0, 64, 1, 1025, 0, 0, 0, NULL},
-    {"fact 4,096 at the end", CANTIVOREX_FACT, CANTIVOREX_FACT, 1790, 16, 2, 0, 0, 0, end_with_fact_4096},
-    {"fact 0 at the end", CANTIVOREX_ORDER, CANTIVOREX_ORDER, 1790, 16, 2, 0, 0, 0, end_with_fact_0},
-    {"rule 3 in the last step", CANTIVOREX_NAME, 0, 64, 1, 1024, 3, 0, 0, NULL},
-    {"goal 3", CANTIVOREX_NAME, 0, 64, 1, 1024, 0, 3, 0, NULL},
-    {"4,096 persistent facts", CANTIVOREX_ATTACK, 0, 64, 1, 1024, 0, 0, 4096, NULL},
-    {".. and 1,500 bodies of 16 facts", CANTIVOREX_BLOCKED, 0, 1500, 16, 2, 1, 0, 4096, NULL},
-    {"persistent fact 4,096", CANTIVOREX_FACT, CANTIVOREX_FACT, 64, 1, 2, 0, 0, 4097, NULL},
+    {"a chain of 4,000 clauses", CANTIVOREX_ATTACK, 0, 4000, 1, 2, 0, 0, 0, 0, NULL},
+    {"1,790 bodies of 16 facts", CANTIVOREX_ATTACK, 0, 1790, 16, 2, 0, 0, 0, 0, NULL},
+    {"1,024 steps", CANTIVOREX_ATTACK, 0, 64, 1, 1024, 0, 0, 0, 0, NULL},
+    {"a fact missing in the last step", CANTIVOREX_BLOCKED, 0, 64, 1, 1024, 1, 0, 0, 0, NULL},
+    {"a fact in the last step's way", CANTIVOREX_BLOCKED, 0, 64, 1, 1024, 2, 0, 0, 0, NULL},
+    {"a fact missing in the goal", CANTIVOREX_NOATTACK, 0, 64, 1, 1024, 0, 1, 0, 0, NULL},
+    {"a fact in the goal's way", CANTIVOREX_NOATTACK, 0, 64, 1, 1024, 0, 2, 0, 0, NULL},
+    {"a model of 65,537 bytes", CANTIVOREX_LONG, CANTIVOREX_LONG, 64, 1, 2, 0, 0, 0, 0, make_long},
+    {"an empty trace", CANTIVOREX_VERSION, 0, 64, 1, 2, 0, 0, 0, 0, make_empty},
+    {"a byte after the model", CANTIVOREX_SHAPE, CANTIVOREX_SHAPE, 1790, 16, 2, 0, 0, 0, 0, leave_a_byte},
+    {"4,097 facts", CANTIVOREX_COUNT, CANTIVOREX_COUNT, 64, 1, 2, 0, 0, 0, 0, take_a_fact_more},
+    {"1,025 steps", CANTIVOREX_COUNT, 0, 64, 1, 1025, 0, 0, 0, 0, NULL},
+    {"fact 4,096 at the end", CANTIVOREX_FACT, CANTIVOREX_FACT, 1790, 16, 2, 0, 0, 0, 0, end_with_fact_4096},
+    {"fact 0 at the end", CANTIVOREX_ORDER, CANTIVOREX_ORDER, 1790, 16, 2, 0, 0, 0, 0, end_with_fact_0},
+    {"rule 3 in the last step", CANTIVOREX_NAME, 0, 64, 1, 1024, 3, 0, 0, 0, NULL},
+    {"goal 3", CANTIVOREX_NAME, 0, 64, 1, 1024, 0, 3, 0, 0, NULL},
+    {"4,096 persistent facts", CANTIVOREX_ATTACK, 0, 64, 1, 1024, 0, 0, 4096, 0, NULL},
+    {".. and 1,500 bodies of 16 facts", CANTIVOREX_BLOCKED, 0, 1500, 16, 2, 1, 0, 4096, 0, NULL},
+    {"persistent fact 4,096", CANTIVOREX_FACT, CANTIVOREX_FACT, 64, 1, 2, 0, 0, 4097, 0, NULL},
+    {"991 names in use, 32 made", CANTIVOREX_ATTACK, 0, 64, 1, 1024, 3, 0, 4096, 991, NULL},
+    {"1,024 names in use", CANTIVOREX_USED, 0, 64, 1, 1024, 3, 0, 4096, 1024, NULL},
+    {".. and 1,400 bodies of 16 facts", CANTIVOREX_USED, 0, 1400, 16, 2, 3, 0, 4096, 1024, NULL},
+    {"name 1,024 in use", CANTIVOREX_BADNAME, CANTIVOREX_BADNAME, 64, 1, 2, 0, 0, 0, 1025, NULL},
 };
 
 static uint8_t answer;
@@ -195,7 +207,7 @@ static void close_it(void)
 static void check_it(void)
 {
     answer = cantivorex_check(model.bytes, model.len, trace.bytes, trace.len, state, room, table,
-        CANTIVOREX_TABLE_ENTRIES, out, CANTIVOREX_OUT_ENTRIES);
+        CANTIVOREX_TABLE_ENTRIES, names, sizeof names, out, CANTIVOREX_OUT_ENTRIES);
 }
 
 static void count_it(void)

@@ -2,7 +2,8 @@
  *
  * Everything is lent: the library keeps no pointer, frees nothing and allocates nothing, and each call stands by
  * itself, so that calls on different buffers may run at the same time. A file is any bytes at all; nothing in one can
- * make a call crash or loop. What a call may write (state, table, out) must overlap no other area of the same call.
+ * make a call crash or loop. What a call may write (state, table, names, out) must overlap no other area of the same
+ * call.
  *
  * The functions at the bottom, `cantivorex_safe_..`, are the ones to call: they take a null pointer as an area of
  * length 0. The four above them are what the library has, each area as a pointer that is not null and a length.
@@ -19,24 +20,27 @@ extern "C" {
 
 /* The verdict's numbers. */
 enum {
-    CANTIVOREX_ATTACK = 0,   /* accepted */
-    CANTIVOREX_ROOM = 1,     /* a buffer is too short; state and table stay */
-    CANTIVOREX_LONG = 2,     /* a file is over its size: 65,536 bytes for a model, 4,096 for a trace */
-    CANTIVOREX_VERSION = 3,  /* a file is empty, or its first byte is not a version: 1 or 2 of a model, 1 of a trace */
-    CANTIVOREX_SHAPE = 4,    /* a length or count does not fit, something is too short, bytes are left over */
-    CANTIVOREX_COUNT = 5,    /* a bound is passed */
-    CANTIVOREX_FACT = 6,     /* a fact number of F or more */
-    CANTIVOREX_ORDER = 7,    /* a list is not strictly ascending */
-    CANTIVOREX_NEGATED = 8,  /* never given: a clause's head may stand in an N */
-    CANTIVOREX_NAME = 9,     /* the trace names an attack state or a rule that the model lacks */
-    CANTIVOREX_BLOCKED = 10, /* a step's rule cannot fire */
-    CANTIVOREX_NOATTACK = 11 /* all steps fire, and the goal is not met */
+    CANTIVOREX_ATTACK = 0,    /* accepted */
+    CANTIVOREX_ROOM = 1,      /* a buffer is too short; state, table and names stay */
+    CANTIVOREX_LONG = 2,      /* a file is over its size: 65,536 bytes for a model, 4,096 for a trace */
+    CANTIVOREX_VERSION = 3,   /* a file is empty, or its first byte is no version: 1, 2 or 3 of a model, 1 of a trace */
+    CANTIVOREX_SHAPE = 4,     /* a length or count does not fit, something is too short, bytes are left over */
+    CANTIVOREX_COUNT = 5,     /* a bound is passed */
+    CANTIVOREX_FACT = 6,      /* a fact number of F or more */
+    CANTIVOREX_ORDER = 7,     /* a list is not strictly ascending */
+    CANTIVOREX_NEGATED = 8,   /* never given: a clause's head may stand in an N */
+    CANTIVOREX_NAME = 9,      /* the trace names an attack state or a rule that the model lacks */
+    CANTIVOREX_BLOCKED = 10,  /* a step's rule cannot fire, for one of its conditions */
+    CANTIVOREX_NOATTACK = 11, /* all steps fire, and the goal is not met */
+    CANTIVOREX_BADNAME = 12,  /* a name over 1,023 */
+    CANTIVOREX_USED = 13      /* a step's conditions are met, and a name that its rule makes is used */
 };
 
 /* What the buffers need at least. */
 enum {
     CANTIVOREX_STATE_BYTES = 512,
     CANTIVOREX_TABLE_ENTRIES = 4096,
+    CANTIVOREX_NAMES_BYTES = 128,
     CANTIVOREX_OUT_ENTRIES = 10, /* of a check; closing needs one */
     CANTIVOREX_HAS_ENTRIES = 4   /* of a count */
 };
@@ -44,8 +48,8 @@ enum {
 /* Where a verdict's values stand in `out`. */
 enum {
     CANTIVOREX_OUT_NUMBER = 0,
-    CANTIVOREX_OUT_STEP = 1,   /* the blocked step; for 0 and 11 the count of steps */
-    CANTIVOREX_OUT_FACT = 2,   /* the first unmet condition, or CANTIVOREX_NONE */
+    CANTIVOREX_OUT_STEP = 1,   /* for 10 and 13 the step that does not fire; for 0 and 11 the count of steps */
+    CANTIVOREX_OUT_FACT = 2,   /* the first unmet condition, for 13 the first used name, or CANTIVOREX_NONE */
     CANTIVOREX_OUT_ROUNDS = 3, /* the rounds of all states reached */
     CANTIVOREX_OUT_HELD = 4,   /* the facts in the last state reached */
     CANTIVOREX_OUT_KIND = 5,   /* of that condition, one of the kinds below */
@@ -55,7 +59,7 @@ enum {
     CANTIVOREX_OUT_SIZE = 9    /* how many they are */
 };
 
-/* Where a model's figures stand in `out`: the same four for both versions. */
+/* Where a model's figures stand in `out`: the same four for all versions. */
 enum {
     CANTIVOREX_HAS_FACTS = 0, /* F: its facts are the numbers below it */
     CANTIVOREX_HAS_CLAUSES = 1,
@@ -74,22 +78,24 @@ enum {
 #define CANTIVOREX_NONE 65535
 
 /* The verdict on a model and a trace: answers its number and writes its ten values to the front of `out`.
- * For 1 to 9 state and table stay as they were. For 0, 10 and 11 the first 512 bytes of `state` hold the last state
- * reached (fact f is the bit of value 2^(f mod 8) in byte f/8) and the first 4,096 entries of `table` its round
- * numbers. What lies beyond stays. With an `out` of fewer than 10 entries the answer is 1 and nothing at all is
- * changed. */
+ * For 1 to 9 and 12 state, table and names stay as they were. For 0, 10, 11 and 13 the first 512 bytes of `state` hold
+ * the facts of the last state reached (fact f is the bit of value 2^(f mod 8) in byte f/8), the first 4,096 entries of
+ * `table` its round numbers, and the first 128 bytes of `names` the names used by then, laid out like the facts.
+ * Versions 1 and 2 of a model have no names: all three buffers are needed all the same, and no name is used at the end.
+ * What lies beyond stays. With an `out` of fewer than 10 entries the answer is 1 and nothing at all is changed. */
 uint8_t cantivorex_check(const uint8_t *model, size_t model_len, const uint8_t *trace, size_t trace_len,
-    uint8_t *state, size_t state_len, uint16_t *table, size_t table_len, uint64_t *out, size_t out_len);
+    uint8_t *state, size_t state_len, uint16_t *table, size_t table_len, uint8_t *names, size_t names_len,
+    uint64_t *out, size_t out_len);
 
 /* Closing by itself, from the state lent: answers 0 and writes the number of rounds to out[0] and the round numbers to
- * the first 4,096 entries of `table`. Otherwise it answers 1 to 7 for what it is lent, or 6 for a state with a fact of
- * F or more, and changes nothing. With an `out` of no entries the answer is 1. */
+ * the first 4,096 entries of `table`. Otherwise it answers 1 to 7 or 12 for what it is lent, or 6 for a state with a
+ * fact of F or more, and changes nothing. It looks at no names. With an `out` of no entries the answer is 1. */
 uint8_t cantivorex_close(const uint8_t *model, size_t model_len, const uint8_t *state, size_t state_len,
     uint16_t *table, size_t table_len, uint64_t *out, size_t out_len);
 
 /* What a model has: answers 0 and writes how many facts, clauses, rules and attack states to the front of `out`.
- * Otherwise it answers 2 to 7 for the model and changes nothing. With an `out` of fewer than 4 entries the answer is
- * 1. */
+ * Otherwise it answers 2 to 7 or 12 for the model and changes nothing. With an `out` of fewer than 4 entries the answer
+ * is 1. */
 uint8_t cantivorex_count(const uint8_t *model, size_t model_len, uint64_t *out, size_t out_len);
 
 /* The bytes at a place of the file marked (0 the model, 1 the trace), as far as the file has them; for any other mark
@@ -101,14 +107,14 @@ size_t cantivorex_part(const uint8_t *model, size_t model_len, const uint8_t *tr
 /* The same four, with a null pointer as an area of length 0: a null file is an empty one (VERSION), a null buffer one
  * without room (ROOM). */
 static inline uint8_t cantivorex_safe_check(const uint8_t *model, size_t model_len, const uint8_t *trace,
-    size_t trace_len, uint8_t *state, size_t state_len, uint16_t *table, size_t table_len, uint64_t *out,
-    size_t out_len)
+    size_t trace_len, uint8_t *state, size_t state_len, uint16_t *table, size_t table_len, uint8_t *names,
+    size_t names_len, uint64_t *out, size_t out_len)
 {
     uint64_t nothing = 0; /* an address for an area of length 0, which is never read or written */
     return cantivorex_check(model ? model : (const uint8_t *)&nothing, model ? model_len : 0,
         trace ? trace : (const uint8_t *)&nothing, trace ? trace_len : 0, state ? state : (uint8_t *)&nothing,
-        state ? state_len : 0, table ? table : (uint16_t *)&nothing, table ? table_len : 0, out ? out : &nothing,
-        out ? out_len : 0);
+        state ? state_len : 0, table ? table : (uint16_t *)&nothing, table ? table_len : 0,
+        names ? names : (uint8_t *)&nothing, names ? names_len : 0, out ? out : &nothing, out ? out_len : 0);
 }
 
 static inline uint8_t cantivorex_safe_close(const uint8_t *model, size_t model_len, const uint8_t *state,

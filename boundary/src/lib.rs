@@ -1,8 +1,9 @@
 //! The trace checker for Rust: safe functions over the proved library. include/cantivorex.h says what each answers.
 
-/// What the two buffers must at least hold.
+/// What the three buffers must at least hold.
 pub const STATE_BYTES: usize = 512;
 pub const TABLE_ENTRIES: usize = 4_096;
+pub const NAMES_BYTES: usize = 128;
 
 /// How many values a verdict has.
 pub const VALUES: usize = 10;
@@ -14,9 +15,9 @@ pub const FIGURES: usize = 4;
 pub const NONE: usize = 65_535;
 
 /// By number; NEGATED is never given.
-pub const NAMES: [&str; 12] = [
+pub const NAMES: [&str; 14] = [
     "ATTACK", "ROOM", "LONG", "VERSION", "SHAPE", "COUNT", "FACT", "ORDER", "NEGATED", "NAME",
-    "BLOCKED", "NOATTACK",
+    "BLOCKED", "NOATTACK", "BADNAME", "USED",
 ];
 
 /// Which condition is not met: one of P that is not in the closure, or one of N that is.
@@ -46,6 +47,8 @@ extern "C" {
         state_len: usize,
         table: *mut u16,
         table_len: usize,
+        names: *mut u8,
+        names_len: usize,
         out: *mut u64,
         out_len: usize,
     ) -> u8;
@@ -77,6 +80,7 @@ extern "C" {
 pub struct Verdict {
     pub number: u8,
     pub step: usize,
+    /// The first unmet condition; for USED a name.
     pub fact: usize,
     pub rounds: usize,
     pub held: usize,
@@ -117,10 +121,16 @@ impl Verdict {
     }
 }
 
-/// The verdict on a model and a trace; the buffers change only for ATTACK, BLOCKED and NOATTACK.
-pub fn check(model: &[u8], trace: &[u8], state: &mut [u8], table: &mut [u16]) -> Verdict {
+/// The verdict on a model and a trace; the buffers change only for ATTACK, BLOCKED, NOATTACK and USED.
+pub fn check(
+    model: &[u8],
+    trace: &[u8],
+    state: &mut [u8],
+    table: &mut [u16],
+    names: &mut [u8],
+) -> Verdict {
     let mut out = [0; VALUES];
-    check_into(model, trace, state, table, &mut out);
+    check_into(model, trace, state, table, names, &mut out);
     Verdict::of(out)
 }
 
@@ -131,6 +141,7 @@ pub fn check_into(
     trace: &[u8],
     state: &mut [u8],
     table: &mut [u16],
+    names: &mut [u8],
     out: &mut [u64],
 ) -> u8 {
     // The slices are live and, where they are written, lent to this call alone.
@@ -144,6 +155,8 @@ pub fn check_into(
             state.len(),
             table.as_mut_ptr(),
             table.len(),
+            names.as_mut_ptr(),
+            names.len(),
             out.as_mut_ptr(),
             out.len(),
         )

@@ -53,10 +53,12 @@ impl Board<'_> {
             free.retain(|f| f + 1 != facts);
             free.push(facts - 1);
         }
-        // The facts taken last: these decide nothing unless a kind says so.
+        // The facts taken last, and names: these decide nothing unless a kind says so.
         let count = rng.of(&[0, 1, 40]);
-        let persistent = rng.one_in(2).then(|| sorted(free[..count].to_vec()));
-        let model = Model { facts, persistent, ..Model::default() };
+        let version = 1 + rng.below(3);
+        let persistent = (version > 1).then(|| sorted(free[..count].to_vec()));
+        let names = (version > 2).then(|| (1_024 - count as u16..1_024).collect());
+        let model = Model { facts, persistent, names, ..Model::default() };
         Board { rng, turn, model, goal: 0, steps: Vec::new(), free }
     }
 
@@ -91,9 +93,14 @@ impl Board<'_> {
         self.model.initial.extend(facts);
     }
 
-    /// Version 2, with these persistent facts.
+    /// These persistent facts, in version 2 unless there are names.
     pub(crate) fn keep(&mut self, facts: &[u16]) {
         self.model.persistent = Some(sorted(facts.to_vec()));
+    }
+
+    /// Version 3, with these names in use at the start.
+    pub(crate) fn in_use(&mut self, names: &[u16]) {
+        self.model.names = Some(sorted(names.to_vec()));
     }
 
     /// The fact of a list that decides: mostly the last.
@@ -192,5 +199,5 @@ impl Board<'_> {
 
 /// A rule without N.
 pub(crate) fn rule(pos: &[u16], add: &[u16]) -> Rule {
-    Rule { pos: pos.into(), neg: vec![], add: add.into() }
+    Rule { pos: pos.into(), add: add.into(), ..Rule::default() }
 }

@@ -4,8 +4,8 @@
 
 use crate::board::{rule, Board, Files, Place, PLACES};
 use crate::gen::{fields, raise, write_model, Rng};
-use crate::lasting;
-use crate::read::{Attack, Rule};
+use crate::read::{Attack, Rule, NAMES_IN_USE, PERSISTENT};
+use crate::{fresh, lasting};
 
 type Kind = fn(Board) -> Files;
 
@@ -44,9 +44,19 @@ const KINDS: &[Kind] = &[
     lasting::full_p,
     lasting::derived,
     lasting::added,
-    lasting::misshapen,
-    lasting::misnumbered,
+    |b| lasting::misshapen(b, PERSISTENT),
+    |b| lasting::misnumbered(b, PERSISTENT),
     lasting::other_version,
+    fresh::full_list,
+    fresh::one_name,
+    fresh::one_a_step,
+    fresh::late,
+    fresh::never_freed,
+    fresh::conditions_first,
+    |b| lasting::misshapen(b, NAMES_IN_USE),
+    |b| lasting::misnumbered(b, NAMES_IN_USE),
+    fresh::misnamed,
+    fresh::misshapen_list,
 ];
 
 /// And a pair of one of these, which cost some hundredths of a second each.
@@ -79,7 +89,7 @@ fn full(mut b: Board, place: Place) -> Files {
 fn full_records(mut b: Board) -> Files {
     let [pos, neg, add, goal] = [0; 4].map(|_| b.take(32));
     b.store_around(Place::P, &pos);
-    b.step(Rule { pos, neg, add: add.clone() });
+    b.step(Rule { pos, neg, add: add.clone(), ..Rule::default() });
     b.aim(&add, &goal);
     b.store_around(Place::GoalN, &goal);
     b.files()

@@ -2,8 +2,8 @@
 //! A pair depends on its seed and index alone, so any one of a stream can be made again.
 
 use crate::bounds;
-use crate::read::{bare_sections, Attack, Clause, Model, Rule};
-use crate::{STATE_BYTES, TABLE_ENTRIES};
+use crate::read::{bare_sections, Attack, Clause, Model, Rule, NAMES_IN_USE, PERSISTENT};
+use crate::{NAMES_BYTES, STATE_BYTES, TABLE_ENTRIES};
 use std::collections::BTreeSet;
 
 /// Splitmix64.
@@ -41,15 +41,17 @@ pub struct Pair {
     pub trace: Vec<u8>,
     pub state_len: usize,
     pub table_len: usize,
+    pub names_len: usize,
 }
 
 impl Pair {
-    /// Buffers full of leftovers, so that what isn't written shows.
-    pub fn buffers(&self, seed: u64, index: u64) -> (Vec<u8>, Vec<u16>) {
+    /// Buffers full of leftovers, so that what isn't written shows: state, table and names.
+    pub fn buffers(&self, seed: u64, index: u64) -> (Vec<u8>, Vec<u16>, Vec<u8>) {
         let junk = Rng::new(!seed, index).draw();
         let state = (0..self.state_len).map(|i| (junk >> (i % 57)) as u8).collect();
         let table = (0..self.table_len).map(|i| (junk >> (i % 49)) as u16).collect();
-        (state, table)
+        let names = (0..self.names_len).map(|i| (junk >> (i % 53)) as u8).collect();
+        (state, table, names)
     }
 }
 
@@ -64,17 +66,23 @@ pub fn pair(seed: u64, index: u64) -> Pair {
         return roomy(bounds::files(&mut rng, index / AT_BOUNDS));
     }
     let (model, trace) = if rng.below(100) < 45 { sound_files(&mut rng) } else { damage(&mut rng) };
-    let (mut state_len, mut table_len) = (STATE_BYTES, TABLE_ENTRIES);
+    let mut pair = roomy((model, trace));
     match rng.below(150) {
-        0 => state_len = rng.of(&[0, 1, 256, 510, 511]),
-        1 => table_len = rng.of(&[0, 1, 512, 4_094, 4_095]),
-        2 => (state_len, table_len) = (511, 4_095),
-        _ => (state_len, table_len) = (512 + rng.of(&[0, 1, 64]), 4_096 + rng.of(&[0, 1, 64])),
+        0 => pair.state_len = rng.of(&[0, 1, 256, 510, 511]),
+        1 => pair.table_len = rng.of(&[0, 1, 512, 4_094, 4_095]),
+        2 => (pair.state_len, pair.table_len, pair.names_len) = (511, 4_095, 127),
+        3 => pair.names_len = rng.of(&[0, 1, 64, 126, 127]),
+        _ => {
+            let more = [0; 3].map(|_| rng.of(&[0, 1, 64]));
+            pair.state_len += more[0];
+            pair.table_len += more[1];
+            pair.names_len += more[2];
+        }
     }
-    Pair { model, trace, state_len, table_len }
+    pair
 }
 
-/// Only pairs that ATTACK, BLOCKED or NOATTACK answers.
+/// Only pairs that ATTACK, BLOCKED, NOATTACK or USED answers.
 pub fn sound(seed: u64, index: u64) -> Pair {
     roomy(sound_files(&mut Rng::new(seed, index)))
 }
@@ -85,7 +93,7 @@ pub fn damaged(seed: u64, index: u64) -> Pair {
 }
 
 fn roomy((model, trace): (Vec<u8>, Vec<u8>)) -> Pair {
-    Pair { model, trace, state_len: STATE_BYTES, table_len: TABLE_ENTRIES }
+    Pair { model, trace, state_len: STATE_BYTES, table_len: TABLE_ENTRIES, names_len: NAMES_BYTES }
 }
 
 /// A starting state for closing by itself; one in eight has a bit from F on if F leaves any, one in
@@ -108,11 +116,14 @@ pub fn start_state(seed: u64, index: u64, facts: usize) -> Vec<u8> {
 // Writers. They write what they are given, faults included.
 
 pub fn write_model(model: &Model) -> Vec<u8> {
-    let mut out = vec![if model.persistent.is_some() { 2 } else { 1 }];
+    let later = [&model.persistent, &model.names].map(Option::as_deref);
+    // A version has the sections of those before it, empty if need be.
+    let extra = later.iter().rposition(Option::is_some).map_or(0, |last| last + 1);
+    let mut out = vec![1 + extra as u8];
     section(&mut out, |out| word(out, model.facts as usize));
     section(&mut out, |out| words(out, &model.initial));
-    if let Some(persistent) = &model.persistent {
-        section(&mut out, |out| words(out, persistent));
+    for list in &later[..extra] {
+        section(&mut out, |out| words(out, list.unwrap_or_default()));
     }
     section(&mut out, |out| {
         for c in &model.clauses {
@@ -121,7 +132,12 @@ pub fn write_model(model: &Model) -> Vec<u8> {
             words(out, &c.body);
         }
     });
-    section(&mut out, |out| model.rules.iter().for_each(|r| lists(out, &[&r.pos, &r.neg, &r.add])));
+    let rule_lists = if model.names.is_some() { 4 } else { 3 };
+    section(&mut out, |out| {
+        for r in &model.rules {
+            lists(out, &[&r.pos, &r.neg, &r.add, &r.names][..rule_lists]);
+        }
+    });
     section(&mut out, |out| model.attacks.iter().for_each(|a| lists(out, &[&a.pos, &a.neg])));
     out
 }
@@ -195,7 +211,12 @@ fn sound_lists(rng: &mut Rng) -> (Model, Vec<u16>) {
     model.initial = pick(rng, count, size.facts, |_| true);
     model.persistent = some_persistent(rng, size.facts);
     model.clauses = some_clauses(rng, &size, &model.initial);
-    let mut story = Story { rng, size, model, known: Vec::new() };
+    let pool = some_pool(rng);
+    if model.persistent.is_some() && rng.below(5) < 3 {
+        let count = rng.of(&[0, 1, 2, 3, 40]);
+        model.names = Some(pool.draw(rng, count));
+    }
+    let mut story = Story { rng, size, model, pool, known: Vec::new(), used: BTreeSet::new() };
     let mut names = story.steps();
     names.insert(0, story.attacks());
     (story.model, names)
@@ -214,14 +235,34 @@ pub(crate) fn sorted(mut list: Vec<u16>) -> Vec<u16> {
     list
 }
 
-/// Every other model is of version 2; of its facts none, all or about half are persistent.
+/// Every third model is of version 1; of the facts of the others none, all or about half are
+/// persistent.
 fn some_persistent(rng: &mut Rng, facts: usize) -> Option<Vec<u16>> {
-    if rng.one_in(2) {
+    if rng.one_in(3) {
         return None;
     }
     let share = rng.below(8);
     let mut is_in = |_: &u16| share > 0 && (share == 1 || rng.one_in(2));
     Some((0..facts as u16).filter(&mut is_in).collect())
+}
+
+/// The names of a pair: so many from the first on. Few, so that they come up again, or all.
+struct Pool {
+    first: usize,
+    count: usize,
+}
+
+fn some_pool(rng: &mut Rng) -> Pool {
+    let count = rng.of(&[3, 8, 8, 16, 1_024]);
+    Pool { first: rng.of(&[0, 0, 250, 500, 1_024]).min(1_024 - count), count }
+}
+
+impl Pool {
+    /// Up to `count` names, ascending.
+    fn draw(&self, rng: &mut Rng, count: usize) -> Vec<u16> {
+        let names = pick(rng, count, self.count, |_| true);
+        names.iter().map(|name| name + self.first as u16).collect()
+    }
 }
 
 fn some_clauses(rng: &mut Rng, size: &Size, initial: &[u16]) -> Vec<Clause> {
@@ -282,12 +323,15 @@ fn learn(clause: &Clause, known: &mut [bool]) -> bool {
     fresh
 }
 
-/// A run that makes the rules it needs as it goes; `known` is the latest closure.
+/// A run that makes the rules it needs as it goes; `known` is the latest closure, `used` the names
+/// used by then.
 struct Story<'a> {
     rng: &'a mut Rng,
     size: Size,
     model: Model,
+    pool: Pool,
     known: Vec<bool>,
+    used: BTreeSet<u16>,
 }
 
 impl Story<'_> {
@@ -295,6 +339,7 @@ impl Story<'_> {
         let mut state = vec![false; self.size.facts];
         self.model.initial.iter().for_each(|f| state[*f as usize] = true);
         let persistent: BTreeSet<u16> = self.model.persistent.iter().flatten().copied().collect();
+        self.used.extend(self.model.names.iter().flatten());
         self.known = reach(&self.model.clauses, &state);
         for _ in 0..self.rng.below(3) {
             let idle = self.rule(false);
@@ -315,15 +360,17 @@ impl Story<'_> {
             let goes = rule.pos.iter().filter(|f| !persistent.contains(f));
             goes.for_each(|f| state[*f as usize] = false);
             rule.add.iter().for_each(|f| state[*f as usize] = true);
+            self.used.extend(&rule.names);
             self.known = reach(&self.model.clauses, &state);
         }
         steps
     }
 
     fn fires(&self, name: usize) -> bool {
-        let Rule { pos, neg, .. } = &self.model.rules[name];
+        let Rule { pos, neg, names, .. } = &self.model.rules[name];
         let known = |f: &u16| self.known[*f as usize];
-        pos.iter().all(known) && !neg.iter().any(known)
+        let used = |name: &u16| self.used.contains(name);
+        pos.iter().all(known) && !neg.iter().any(known) && !names.iter().any(used)
     }
 
     /// A rule that fires if it is easily found or there is room to make it, sometimes any.
@@ -353,7 +400,22 @@ impl Story<'_> {
         if self.rng.one_in(times) && add.len() + pos.len() <= 32 {
             add.extend(&pos);
         }
-        Rule { pos, neg, add: sorted(add) }
+        Rule { pos, neg, add: sorted(add), names: self.names(fit) }
+    }
+
+    /// The names that a new rule makes, in version 3. With `fit` they are unused, but at times for one.
+    fn names(&mut self, fit: bool) -> Vec<u16> {
+        if self.model.names.is_none() {
+            return vec![];
+        }
+        let count = self.list_size();
+        let mut names = self.pool.draw(self.rng, count);
+        if fit {
+            names.retain(|name| !self.used.contains(name));
+            let has_room = names.len() < 32;
+            names.extend(self.used.last().filter(|_| has_room && self.rng.one_in(8)));
+        }
+        sorted(names)
     }
 
     fn list_size(&mut self) -> usize {
@@ -428,6 +490,9 @@ fn damage(rng: &mut Rng) -> (Vec<u8>, Vec<u8>) {
 
 fn spoil_lists(rng: &mut Rng, model: &mut Model, names: &mut Vec<u16>) {
     let over = rng.of(&[0, 1, 1, 2]);
+    if model.names.is_some() && rng.one_in(2) {
+        return spoil_names(rng, model, over);
+    }
     match rng.below(16) {
         0..=3 => bad_fact(rng, model),
         4..=6 => disorder(rng, model),
@@ -466,14 +531,24 @@ fn bad_fact(rng: &mut Rng, model: &mut Model) {
         return;
     }
     let list = any_list(rng, model);
+    put_in(rng, list, fact);
+}
+
+/// A number at any place of a list, at times as its last.
+fn put_in(rng: &mut Rng, list: &mut Vec<u16>, number: u16) {
     let at = rng.below(list.len() + 1);
     list.truncate(if rng.one_in(2) { at } else { list.len() });
-    list.insert(at, fact);
+    list.insert(at, number);
 }
 
 fn disorder(rng: &mut Rng, model: &mut Model) {
     let some = rng.below(model.facts as usize) as u16;
     let list = any_list(rng, model);
+    mix_up(rng, list, some);
+}
+
+/// A list that is no longer ascending, most times; an empty one gets some number twice.
+fn mix_up(rng: &mut Rng, list: &mut Vec<u16>, some: u16) {
     let at = rng.below(list.len());
     match list.get(at) {
         Some(_) if rng.one_in(2) => list.swap(0, at),
@@ -493,6 +568,26 @@ fn long_list(rng: &mut Rng, model: &mut Model, over: usize) {
     }
 }
 
+/// Faults of the names that a rule makes, at times with another in its record, or of those in use.
+fn spoil_names(rng: &mut Rng, model: &mut Model, over: usize) {
+    let beyond = rng.of(&[1_024, 1_024, 1_025, 2_048, 65_535]) as u16;
+    let some = rng.below(1_024) as u16;
+    let fact = rng.of(&[0, model.facts as usize]) as u16;
+    let at = rng.below(model.rules.len());
+    let in_use = model.names.get_or_insert_default();
+    match (rng.below(10), model.rules.get_mut(at)) {
+        (0 | 1, Some(rule)) => put_in(rng, &mut rule.names, beyond),
+        (2 | 3, Some(rule)) => mix_up(rng, &mut rule.names, some),
+        (4 | 5, Some(rule)) => rule.names = (some % 900..).take(32 + over).collect(),
+        (6, Some(rule)) => {
+            put_in(rng, &mut rule.names, beyond);
+            rule.pos.splice(0..0, [fact; 2]);
+        }
+        (7, _) => put_in(rng, in_use, beyond),
+        _ => mix_up(rng, in_use, some),
+    }
+}
+
 fn many_records(rng: &mut Rng, model: &mut Model, over: usize) {
     match rng.below(60) {
         0 => model.clauses.resize(4_096 + over, Clause::default()),
@@ -501,11 +596,13 @@ fn many_records(rng: &mut Rng, model: &mut Model, over: usize) {
     }
 }
 
-/// A length or count in the file; `end` is where the bytes it covers end, for lengths.
+/// A length or count in the file; `end` is where the bytes it covers end, for lengths, and `list` which
+/// of its record's lists a count belongs to.
 pub(crate) struct Field {
     pub(crate) at: usize,
     pub(crate) wide: usize,
     end: usize,
+    pub(crate) list: Option<usize>,
 }
 
 fn number_at(file: &[u8], at: usize, wide: usize) -> Option<usize> {
@@ -532,7 +629,7 @@ pub(crate) fn fields(file: &[u8], is_model: bool) -> Vec<Field> {
     for index in 0..if is_model { bare + 3 } else { 1 } {
         let Some(len) = number_at(file, at, 4) else { break };
         let end = file.len().min(at + 4 + len);
-        out.push(Field { at, wide: 4, end });
+        out.push(Field { at, wide: 4, end, list: None });
         if index >= bare {
             record_fields(&file[..end], at + 4, index > bare, &mut out);
         }
@@ -544,11 +641,12 @@ pub(crate) fn fields(file: &[u8], is_model: bool) -> Vec<Field> {
 fn record_fields(section: &[u8], mut at: usize, has_counts: bool, out: &mut Vec<Field>) {
     while let Some(len) = number_at(section, at, 2) {
         let end = section.len().min(at + 2 + len);
-        out.push(Field { at, wide: 2, end });
-        let mut list = at + 2;
+        out.push(Field { at, wide: 2, end, list: None });
+        let (mut list, mut index) = (at + 2, 0);
         while has_counts && list + 2 <= end {
-            out.push(Field { at: list, wide: 2, end: 0 });
+            out.push(Field { at: list, wide: 2, end: 0, list: Some(index) });
             list += 2 + 2 * number_at(section, list, 2).unwrap_or(0);
+            index += 1;
         }
         at = end;
     }
@@ -577,18 +675,31 @@ fn spoil_bytes(rng: &mut Rng, file: &mut Vec<u8>, is_model: bool) {
     }
 }
 
-/// A version that there isn't, or the one of the other layout.
+/// A version that there isn't, or the one of another layout.
 fn other_version(rng: &mut Rng, file: &mut [u8], is_model: bool) {
-    let other = if file[0] == 1 { 2 } else { 1 };
-    let choices = if is_model { [0, 3, 255, other] } else { [0, 2, 2, 2] };
-    file[0] = rng.of(&choices) as u8;
+    let other = another_layout(rng, file[0]) as usize;
+    let choices = if is_model { &[0, 4, 255, other][..] } else { &[0, 2, 2, 2, 2, 3] };
+    file[0] = rng.of(choices) as u8;
+}
+
+pub(crate) fn another_layout(rng: &mut Rng, version: u8) -> u8 {
+    version.wrapping_add(rng.below(2) as u8) % 3 + 1
 }
 
 fn spoil_field(rng: &mut Rng, file: &mut [u8], is_model: bool) {
-    let all = fields(file, is_model);
-    // Every third time the length of the persistent facts, where the model has them.
-    let persistent = is_model && bare_sections(file) == 3 && rng.one_in(3);
-    let at = if persistent { 2 } else { rng.below(all.len()) };
+    let mut all = fields(file, is_model);
+    let bare = if is_model { bare_sections(file) } else { 0 };
+    let fourth = all.iter().any(|field| field.list == Some(3));
+    // Often the length of persistent facts or of names, or the count of a fourth list.
+    let at = match rng.below(5) {
+        0 if bare > PERSISTENT => PERSISTENT,
+        1 | 2 if bare > NAMES_IN_USE => NAMES_IN_USE,
+        3 if fourth => {
+            all.retain(|field| field.list == Some(3));
+            rng.below(all.len())
+        }
+        _ => rng.below(all.len()),
+    };
     let Some(field) = all.get(at) else { return };
     let value = number_at(file, field.at, field.wide).unwrap_or(0);
     let choices = [value + 1, value + 1, value.wrapping_sub(1), value + 2, 0, 0xFFFF_FFFF, 0x8000];

@@ -1,9 +1,11 @@
 //! Pairs in which persistence decides: the last, the first or another of all facts, one of a few, the
 //! last of a full P, a fact that is only derived, one that a step adds. Then the faults of the
-//! section itself, and other versions.
+//! section itself, which are those of the names in use, too, and other versions.
 
 use crate::board::{rule, Board, Files};
-use crate::gen::{fields, set_number, sorted};
+use crate::fresh::names;
+use crate::gen::{another_layout, fields, set_number, sorted};
+use crate::read::PERSISTENT;
 
 /// A step that asks for stored facts; some are to stay and some to go.
 fn ask(b: &mut Board, stay: &[u16], go: &[u16]) {
@@ -109,16 +111,32 @@ pub(crate) fn added(mut b: Board) -> Files {
     b.files()
 }
 
+/// 300 facts or names for a section, ascending.
+fn some_of(b: &mut Board, section: usize) -> Vec<u16> {
+    match section {
+        PERSISTENT => b.take(300),
+        _ => sorted(names(b)[..300].to_vec()),
+    }
+}
+
+/// The section by its index, and the version that has it.
+fn put_section(b: &mut Board, section: usize, list: Vec<u16>) {
+    match section {
+        PERSISTENT => b.model.persistent = Some(list),
+        _ => b.model.names = Some(list),
+    }
+}
+
 /// The section odd, with a length that doesn't fit, cut off or missing.
-pub(crate) fn misshapen(mut b: Board) -> Files {
+pub(crate) fn misshapen(mut b: Board, section: usize) -> Files {
     let way = b.each(6);
-    let list = b.take(300);
-    b.keep(&list);
+    let list = some_of(&mut b, section);
+    put_section(&mut b, section, list);
     b.hoard();
     let more = b.rng.of(&[1 << 16, 1 << 24, 1 << 31]);
     let some = 1 + b.rng.below(3);
     let (mut model, trace) = b.files();
-    let length = fields(&model, true).swap_remove(2);
+    let length = fields(&model, true).swap_remove(section);
     let (start, end) = (length.at + 4, length.at + 4 + 600);
     match way {
         0 => {
@@ -137,29 +155,29 @@ pub(crate) fn misshapen(mut b: Board) -> Files {
     (model, trace)
 }
 
-/// A fact of F or more, or two facts in the wrong order, in the last place or the first, of all facts or of some.
-pub(crate) fn misnumbered(mut b: Board) -> Files {
+/// A number too great, or two in the wrong order, in the last place or the first, of all facts or names or of some.
+pub(crate) fn misnumbered(mut b: Board, section: usize) -> Files {
     let way = b.each(6);
-    let facts = b.model.facts;
-    let mut list: Vec<u16> = (0..facts).collect();
+    let end = if section == PERSISTENT { b.model.facts } else { 1_024 };
+    let mut list: Vec<u16> = (0..end).collect();
     if b.rng.one_in(2) {
-        list = b.take(300);
+        list = some_of(&mut b, section);
     }
     let last = list.len() - 1;
-    let beyond = b.rng.of(&[facts as usize + 256, 65_535]) as u16;
+    let beyond = b.rng.of(&[end as usize + 256, 65_535]) as u16;
     match way {
-        0 => list[last] = facts,
+        0 => list[last] = end,
         1 => list.swap(last, last - 1),
         2 => list[last] = list[last - 1],
-        // One more than there are facts, and out of order: a fact comes before the order.
+        // One more than there are, and out of order: a number too great comes before the order.
         3 => {
             list.swap(0, 1);
-            list.push(facts);
+            list.push(end);
         }
         4 => list.swap(0, 1),
         _ => list[last] = beyond,
     }
-    b.model.persistent = Some(list);
+    put_section(&mut b, section, list);
     b.crowd();
     b.files()
 }
@@ -167,13 +185,14 @@ pub(crate) fn misnumbered(mut b: Board) -> Files {
 /// A version that there isn't, and one that the rest isn't written in.
 pub(crate) fn other_version(mut b: Board) -> Files {
     let way = b.each(6);
-    let any = 4 + b.rng.below(251);
+    let any = 5 + b.rng.below(250);
+    let version = 1 + b.model.persistent.iter().chain(&b.model.names).count() as u8;
+    let other = another_layout(b.rng, version) as usize;
     b.crowd();
     let (mut model, mut trace) = b.files();
-    let other = 3 - model[0] as usize;
     match way {
         5 => trace[0] = 2,
-        _ => model[0] = [0, 3, 255, other, any][way] as u8,
+        _ => model[0] = [0, 4, 255, other, any][way] as u8,
     }
     (model, trace)
 }

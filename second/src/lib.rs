@@ -5,6 +5,7 @@ mod board;
 mod bounds;
 pub mod close;
 mod count;
+mod fresh;
 pub mod gen;
 mod lasting;
 pub mod read;
@@ -31,10 +32,12 @@ pub const NEGATED: u8 = 8;
 pub const NAME: u8 = 9;
 pub const BLOCKED: u8 = 10;
 pub const NOATTACK: u8 = 11;
+pub const BADNAME: u8 = 12;
+pub const USED: u8 = 13;
 
-pub const NAMES: [&str; 12] = [
+pub const NAMES: [&str; 14] = [
     "ATTACK", "ROOM", "LONG", "VERSION", "SHAPE", "COUNT", "FACT", "ORDER", "NEGATED", "NAME",
-    "BLOCKED", "NOATTACK",
+    "BLOCKED", "NOATTACK", "BADNAME", "USED",
 ];
 
 /// Kinds: whether the unmet condition is one of P or one of N.
@@ -51,9 +54,10 @@ pub const TRACE: u8 = 1;
 /// No fact, or no round.
 pub const NONE: u16 = 65_535;
 
-/// What the two buffers must at least hold.
+/// What the three buffers must at least hold.
 pub const STATE_BYTES: usize = 512;
 pub const TABLE_ENTRIES: usize = 4_096;
+pub const NAMES_BYTES: usize = 128;
 
 /// A refusal before the first step: its number and the bytes it blames.
 #[derive(Clone, Copy, Debug, PartialEq, Eq)]
@@ -78,17 +82,24 @@ pub struct Verdict {
     pub len: usize,
 }
 
-/// Judges the pair. The buffers change only for ATTACK, BLOCKED and NOATTACK.
-pub fn check(model: &[u8], trace: &[u8], state: &mut [u8], table: &mut [u16]) -> Verdict {
-    if !room(state, table) {
+/// Judges the pair. The buffers change only for ATTACK, BLOCKED, NOATTACK and USED.
+pub fn check(
+    model: &[u8],
+    trace: &[u8],
+    state: &mut [u8],
+    table: &mut [u16],
+    names: &mut [u8],
+) -> Verdict {
+    if !room(state, table) || names.len() < NAMES_BYTES {
         return refusal(Fault { number: ROOM, mark: MODEL, start: 0, len: 0 });
     }
     match parse(model, trace) {
         Err(fault) => refusal(fault),
         Ok(parsed) => {
             let end = run(&parsed);
-            write_state(&end.stored, state);
+            write_bits(&end.stored, &mut state[..STATE_BYTES]);
             write_table(&end.numbers, table);
+            write_bits(&end.used, &mut names[..NAMES_BYTES]);
             end.verdict
         }
     }
@@ -132,7 +143,8 @@ fn refusal(Fault { number, mark, start, len }: Fault) -> Verdict {
     Verdict { number, step: 0, fact, rounds: 0, held: 0, kind, round, mark, start, len }
 }
 
-/// A condition that isn't met; one of N has the round in which its fact arose.
+/// A condition that isn't met; one of N has the round in which its fact arose. Or a used name, which
+/// has neither kind nor round.
 struct Unmet {
     kind: u8,
     fact: u16,
@@ -141,9 +153,11 @@ struct Unmet {
 
 const ALL_MET: Unmet = Unmet { kind: NO_KIND, fact: NONE, round: NONE };
 
-/// Where a run ends: the last state reached, its round numbers, and what is said of it.
+/// Where a run ends: the last state reached, which is facts and names, its round numbers, and what is
+/// said of it.
 struct End {
     stored: BTreeSet<u16>,
+    used: BTreeSet<u16>,
     numbers: Vec<u16>,
     verdict: Verdict,
 }
@@ -152,18 +166,19 @@ fn run(parsed: &Parsed) -> End {
     let Parsed { model, trace, attack_places } = parsed;
     let mut stored: BTreeSet<u16> = model.initial.iter().copied().collect();
     let persistent: BTreeSet<u16> = model.persistent.iter().flatten().copied().collect();
+    let mut used: BTreeSet<u16> = model.names.iter().flatten().copied().collect();
     let (mut rounds, mut numbers) = close(model, &stored);
     for (step, &name) in trace.steps.iter().enumerate() {
         let rule = &model.rules[name as usize];
-        let unmet = first_unmet(&rule.pos, &rule.neg, &numbers);
-        if let Some(Unmet { kind, fact, round }) = unmet {
+        if let Some((number, Unmet { kind, fact, round })) = why_not(rule, &numbers, &used) {
             // The trace's section starts at byte 5, and the goal takes its first two bytes.
-            let fault = Fault { number: BLOCKED, mark: TRACE, start: 7 + 2 * step, len: 2 };
+            let fault = Fault { number, mark: TRACE, start: 7 + 2 * step, len: 2 };
             let held = stored.len();
             let verdict = Verdict { step, fact, rounds, held, kind, round, ..refusal(fault) };
-            return End { stored, numbers, verdict };
+            return End { stored, used, numbers, verdict };
         }
         stored = next_state(&stored, rule, &persistent);
+        used.extend(&rule.names);
         let (more, anew) = close(model, &stored);
         rounds += more;
         numbers = anew;
@@ -178,7 +193,16 @@ fn run(parsed: &Parsed) -> End {
     let (step, held) = (trace.steps.len(), stored.len());
     let Unmet { kind, fact, round } = unmet.unwrap_or(ALL_MET);
     let verdict = Verdict { step, fact, rounds, held, kind, round, ..refusal(fault) };
-    End { stored, numbers, verdict }
+    End { stored, used, numbers, verdict }
+}
+
+/// Why a rule can't fire: a condition, and only if all of them are met a name that is used.
+fn why_not(rule: &Rule, numbers: &[u16], used: &BTreeSet<u16>) -> Option<(u8, Unmet)> {
+    if let Some(unmet) = first_unmet(&rule.pos, &rule.neg, numbers) {
+        return Some((BLOCKED, unmet));
+    }
+    let &name = rule.names.iter().find(|name| used.contains(name))?;
+    Some((USED, Unmet { fact: name, ..ALL_MET }))
 }
 
 /// P is searched before N; a fact is in the closure when it has a round number.
@@ -198,10 +222,11 @@ fn next_state(stored: &BTreeSet<u16>, rule: &Rule, persistent: &BTreeSet<u16>) -
     kept.chain(&rule.add).copied().collect()
 }
 
-fn write_state(stored: &BTreeSet<u16>, state: &mut [u8]) {
-    state[..STATE_BYTES].fill(0);
-    for &f in stored {
-        state[f as usize / 8] |= 1 << (f % 8);
+/// A set of facts or of names: number n is the bit of value 2^(n mod 8) in byte n/8.
+fn write_bits(set: &BTreeSet<u16>, bytes: &mut [u8]) {
+    bytes.fill(0);
+    for &n in set {
+        bytes[n as usize / 8] |= 1 << (n % 8);
     }
 }
 

@@ -1,6 +1,6 @@
 //! `second MODEL TRACE [--full]`: the verdict's line, and with `--full` where its bytes lie.
 
-use second::{check, line, MODEL, STATE_BYTES, TABLE_ENTRIES};
+use second::{check, line, MODEL, NAMES_BYTES, STATE_BYTES, TABLE_ENTRIES};
 
 fn main() {
     let (flags, paths): (Vec<String>, Vec<String>) =
@@ -13,7 +13,8 @@ fn main() {
     let read = |path: &String| std::fs::read(path).unwrap_or_default();
     let mut state = [0; STATE_BYTES];
     let mut table = [0; TABLE_ENTRIES];
-    let verdict = check(&read(model), &read(trace), &mut state, &mut table);
+    let mut names = [0; NAMES_BYTES];
+    let verdict = check(&read(model), &read(trace), &mut state, &mut table, &mut names);
     println!("{}", line(&verdict));
     if !flags.is_empty() {
         let mark = if verdict.mark == MODEL { "model" } else { "trace" };

@@ -1,6 +1,6 @@
 //! From bytes to owned lists, or to the first fault in the fixed order.
 
-use crate::{Fault, COUNT, FACT, LONG, MODEL, NAME, ORDER, SHAPE, TRACE, VERSION};
+use crate::{Fault, BADNAME, COUNT, FACT, LONG, MODEL, NAME, ORDER, SHAPE, TRACE, VERSION};
 
 #[derive(Clone, Debug, Default, PartialEq, Eq)]
 pub struct Clause {
@@ -13,6 +13,8 @@ pub struct Rule {
     pub pos: Vec<u16>,
     pub neg: Vec<u16>,
     pub add: Vec<u16>,
+    /// The names it makes; only version 3 has the list.
+    pub names: Vec<u16>,
 }
 
 #[derive(Clone, Debug, Default, PartialEq, Eq)]
@@ -25,8 +27,10 @@ pub struct Attack {
 pub struct Model {
     pub facts: u16,
     pub initial: Vec<u16>,
-    /// Version 2 has the section, even if it is empty; version 1 has none.
+    /// Versions 2 and 3 have the section, even if it is empty; version 1 has none.
     pub persistent: Option<Vec<u16>>,
+    /// The names in use at the start: only version 3 has the section.
+    pub names: Option<Vec<u16>>,
     pub clauses: Vec<Clause>,
     pub rules: Vec<Rule>,
     pub attacks: Vec<Attack>,
@@ -81,10 +85,10 @@ fn in_trace((number, Part { start, len }): Fail) -> Fault {
 }
 
 /// The first bytes that there are.
-const MODEL_VERSIONS: &[u8] = &[1, 2];
+const MODEL_VERSIONS: &[u8] = &[1, 2, 3];
 const TRACE_VERSIONS: &[u8] = &[1];
 
-/// Everything judged before the first step, buffers apart: numbers 2 to 9.
+/// Everything judged before the first step, buffers apart: numbers 2 to 9 and 12.
 pub fn parse(model: &[u8], trace: &[u8]) -> Result<Parsed, Fault> {
     judge_size(model, 65_536).map_err(in_model)?;
     judge_size(trace, 4_096).map_err(in_trace)?;
@@ -95,7 +99,7 @@ pub fn parse(model: &[u8], trace: &[u8]) -> Result<Parsed, Fault> {
     Ok(Parsed { model, trace, attack_places })
 }
 
-/// The model's share of that, numbers 2 to 7, for closing called by itself.
+/// The model's share of that, numbers 2 to 7 and 12, for closing called by itself.
 pub fn parse_model(model: &[u8]) -> Result<Model, Fault> {
     judge_size(model, 65_536).map_err(in_model)?;
     judge_version(model, MODEL_VERSIONS).map_err(in_model)?;
@@ -140,10 +144,13 @@ fn ascending(list: &[u16]) -> bool {
 fn read_model(file: &[u8]) -> Result<(Model, Vec<Part>), Fail> {
     let sizes = section(file, 1)?;
     let facts = read_sizes(sizes.of(file), sizes)?;
-    let (end, initial) = read_facts(file, sizes.end(), facts)?;
-    let (end, persistent) = read_persistent(file, end, facts)?;
+    let below_f = Below { end: facts, number: FACT };
+    let (end, initial) = read_bare(file, sizes.end(), below_f)?;
+    let (end, persistent) = read_later(file, end, PERSISTENT, below_f)?;
+    let (end, names) = read_later(file, end, NAMES_IN_USE, A_NAME)?;
+    let rule_kind = if names.is_some() { &RULE_WITH_NAMES } else { &RULE };
     let (end, clauses) = read_records(file, end.end(), facts, &CLAUSE)?;
-    let (end, rules) = read_records(file, end.end(), facts, &RULE)?;
+    let (end, rules) = read_records(file, end.end(), facts, rule_kind)?;
     let (end, attacks) = read_records(file, end.end(), facts, &ATTACK_STATE)?;
     judge_tail(file, end)?;
 
@@ -152,6 +159,7 @@ fn read_model(file: &[u8]) -> Result<(Model, Vec<Part>), Fail> {
         facts,
         initial,
         persistent,
+        names,
         clauses: clauses.into_iter().map(|(_, split)| clause(split)).collect(),
         rules: rules.into_iter().map(|(_, split)| rule(split)).collect(),
         attacks: attacks.into_iter().map(|(_, split)| attack(split)).collect(),
@@ -161,33 +169,46 @@ fn read_model(file: &[u8]) -> Result<(Model, Vec<Part>), Fail> {
 
 /// Where the clause section's bytes lie in a model already found well-formed.
 pub(crate) fn clause_section(model: &[u8]) -> Option<Part> {
-    let mut part = section(model, 1).ok()?;
-    for _ in 1..bare_sections(model) {
-        part = section(model, part.end()).ok()?;
-    }
-    section(model, part.end()).ok()
+    section_part(model, bare_sections(model))
 }
 
-/// The bytes of the persistent facts, or the rest from their length on where that doesn't fit. An
-/// empty section has none.
-pub(crate) fn persistent_part(model: &[u8]) -> Option<Part> {
-    if bare_sections(model) < 3 {
+/// The bytes of a section, counted from 0, or the rest from its length on where that doesn't fit. None if the ones
+/// before it don't fit.
+pub(crate) fn section_part(model: &[u8], index: usize) -> Option<Part> {
+    let mut at = 1;
+    for _ in 0..index {
+        at = section(model, at).ok()?.end();
+    }
+    Some(section(model, at).unwrap_or_else(|(_, rest)| rest))
+}
+
+/// What the names of a rule's record are refused with if nothing else in it is: SHAPE, COUNT, BADNAME or ORDER.
+pub(crate) fn names_at_fault(model: &[u8], record: Part) -> Option<u8> {
+    let rules = section_part(model, NAMES_IN_USE + 2)?;
+    let is_rule = rules.start <= record.start && record.end() <= rules.end() && record.len > 2;
+    if bare_sections(model) <= NAMES_IN_USE || !is_rule {
         return None;
     }
-    let sizes = section(model, 1).ok()?;
-    let initial = section(model, sizes.end()).ok()?;
-    match section(model, initial.end()) {
-        Ok(part) => Some(part).filter(|part| part.len > 0),
-        Err((_, rest)) => Some(rest),
+    let mut rest = &record.of(model)[2..];
+    for _ in 0..3 {
+        rest = take_list(rest)?.1;
     }
+    let Some(Split { lists, .. }) = split_lists(rest, 1) else { return Some(SHAPE) };
+    let fourth = Split { head: None, lists: [vec![Vec::new(); 3], lists].concat() };
+    judge_record(&fourth, 0, 0, &RULE_WITH_NAMES).err()
 }
 
-/// How many sections of bare numbers a model has, which stand before the clauses.
+/// The indices of the sections that version 2 and version 3 add.
+pub(crate) const PERSISTENT: usize = 2;
+pub(crate) const NAMES_IN_USE: usize = 3;
+
+/// How many sections of bare numbers a model has, which stand before the clauses: version 2 and
+/// version 3 have one more each.
 pub(crate) fn bare_sections(model: &[u8]) -> usize {
-    if model.first() == Some(&2) {
-        3
-    } else {
-        2
+    match model.first() {
+        Some(2) => 3,
+        Some(3) => 4,
+        _ => 2,
     }
 }
 
@@ -198,26 +219,42 @@ fn read_sizes(bytes: &[u8], part: Part) -> Result<u16, Fail> {
     Ok(facts)
 }
 
-/// The section whose length stands at `at`, as a list of facts.
-fn read_facts(file: &[u8], at: usize, facts: u16) -> Result<(Part, Vec<u16>), Fail> {
+/// What the numbers of a list stay below, and what is said of one that doesn't.
+#[derive(Clone, Copy)]
+struct Below {
+    end: u16,
+    number: u8,
+}
+
+const A_NAME: Below = Below { end: 1_024, number: BADNAME };
+
+impl Below {
+    fn is_passed<'a>(self, mut list: impl Iterator<Item = &'a u16>) -> bool {
+        list.any(|n| *n >= self.end)
+    }
+}
+
+/// The section whose length stands at `at`, as a list of facts or names.
+fn read_bare(file: &[u8], at: usize, below: Below) -> Result<(Part, Vec<u16>), Fail> {
     let part = section(file, at)?;
     fail_if(part.len % 2 == 1, SHAPE, part)?;
     let list = numbers(part.of(file));
-    fail_if(list.iter().any(|f| *f >= facts), FACT, part)?;
+    fail_if(below.is_passed(list.iter()), below.number, part)?;
     fail_if(!ascending(&list), ORDER, part)?;
     Ok((part, list))
 }
 
-/// The section after the initial facts, which only version 2 has; and the last section read.
-fn read_persistent(
+/// A section by its index, behind the last one read, if the version has it; and the last one read then.
+fn read_later(
     file: &[u8],
-    initial: Part,
-    facts: u16,
+    last: Part,
+    index: usize,
+    below: Below,
 ) -> Result<(Part, Option<Vec<u16>>), Fail> {
-    if file[0] != 2 {
-        return Ok((initial, None));
+    if index >= bare_sections(file) {
+        return Ok((last, None));
     }
-    let (part, list) = read_facts(file, initial.end(), facts)?;
+    let (part, list) = read_bare(file, last.end(), below)?;
     Ok((part, Some(list)))
 }
 
@@ -238,6 +275,7 @@ struct Kind {
 
 const CLAUSE: Kind = Kind { most: 4_096, longest: 16, split: split_clause };
 const RULE: Kind = Kind { most: 2_048, longest: 32, split: |bytes| split_lists(bytes, 3) };
+const RULE_WITH_NAMES: Kind = Kind { split: |bytes| split_lists(bytes, 4), ..RULE };
 const ATTACK_STATE: Kind = Kind { most: 64, longest: 32, split: |bytes| split_lists(bytes, 2) };
 
 /// Each record is judged in full before the next one is looked at.
@@ -263,14 +301,19 @@ fn record_place(file: &[u8], left: Part) -> Result<Part, Fail> {
     Ok(Part { start: left.start, len })
 }
 
-/// The passes after the shape: bounds, then facts, then order.
+/// The passes after the shape: bounds, then facts, then names, then order.
 fn judge_record(split: &Split, index: usize, facts: u16, kind: &Kind) -> Result<(), u8> {
     let lists = &split.lists;
+    // Only a rule has a fourth list, and only that one has names.
+    let (of_facts, of_names) = lists.split_at(lists.len().min(3));
     if index >= kind.most || lists.iter().any(|list| list.len() > kind.longest) {
         return Err(COUNT);
     }
-    if split.head.iter().chain(lists.iter().flatten()).any(|f| *f >= facts) {
+    if split.head.iter().chain(of_facts.iter().flatten()).any(|f| *f >= facts) {
         return Err(FACT);
+    }
+    if A_NAME.is_passed(of_names.iter().flatten()) {
+        return Err(BADNAME);
     }
     if lists.iter().any(|list| !ascending(list)) {
         return Err(ORDER);
@@ -306,9 +349,10 @@ fn clause(mut split: Split) -> Clause {
     Clause { head: split.head.unwrap_or_default(), body: split.lists.remove(0) }
 }
 
-fn rule(mut split: Split) -> Rule {
-    let mut next = || split.lists.remove(0);
-    Rule { pos: next(), neg: next(), add: next() }
+fn rule(split: Split) -> Rule {
+    let mut lists = split.lists.into_iter();
+    let mut next = || lists.next().unwrap_or_default();
+    Rule { pos: next(), neg: next(), add: next(), names: next() }
 }
 
 fn attack(mut split: Split) -> Attack {

@@ -1,44 +1,83 @@
-//! How often each verdict, each kind of unmet condition and each thing of version 2 comes up in a
-//! stream of pairs.
+//! How often each verdict, each kind of unmet condition and each thing of versions 2 and 3 comes up
+//! in a stream of pairs.
 
 use crate::gen::Pair;
-use crate::read::{parse, persistent_part, Parsed, Part};
-use crate::{run, Verdict, FACT, MODEL, NAMES, NEGATED, NEGATIVE, ORDER, POSITIVE};
-use crate::{ROOM, SHAPE, TRACE, VERSION};
+use crate::read::{bare_sections, names_at_fault, parse, section_part, Parsed, Part};
+use crate::read::{NAMES_IN_USE, PERSISTENT};
+use crate::{run, Verdict, BADNAME, BLOCKED, COUNT, FACT, MODEL, NAMES, NEGATED, NEGATIVE, ORDER};
+use crate::{POSITIVE, ROOM, SHAPE, TRACE, USED, VERSION};
+use std::collections::BTreeSet;
 
-/// A pair with its verdict, and with the one that it had if no fact were persistent.
+/// A pair with its verdict, with the one that it had if no fact were persistent, and with what its
+/// names did.
 struct Seen<'a> {
     pair: &'a Pair,
     verdict: &'a Verdict,
     without: Verdict,
+    named: Named,
+}
+
+/// What names did in a pair that is run.
+#[derive(Default)]
+struct Named {
+    /// The step that doesn't fire makes a name that is used.
+    again: bool,
+    /// The verdict's name was in use at the start.
+    from_start: bool,
+    /// It isn't the first of its list.
+    later: bool,
+    /// Names are used at the end.
+    left: bool,
 }
 
 /// Whether a pair counts.
 type Counts = fn(&Seen) -> bool;
 
-const ROWS: [(&str, Counts); 14] = [
+const ROWS: [(&str, Counts); 28] = [
     ("positive", |s| s.verdict.kind == POSITIVE),
     ("negative, stored", |s| s.verdict.kind == NEGATIVE && s.verdict.round == 0),
     ("negative, round 1", |s| s.verdict.kind == NEGATIVE && s.verdict.round == 1),
     ("negative, a later round", |s| s.verdict.kind == NEGATIVE && s.verdict.round > 1),
+    ("a model of version 1", |s| s.pair.model.first() == Some(&1)),
     ("a model of version 2", |s| s.pair.model.first() == Some(&2)),
+    ("a model of version 3", |s| s.pair.model.first() == Some(&3)),
     ("persistence decides", |s| *s.verdict != s.without),
     (".. and the verdict's number", |s| s.verdict.number != s.without.number),
-    ("SHAPE of persistent facts", |s| s.blames_persistent(SHAPE)),
-    ("FACT of persistent facts", |s| s.blames_persistent(FACT)),
-    ("ORDER of persistent facts", |s| s.blames_persistent(ORDER)),
+    ("SHAPE of persistent facts", |s| s.blames(PERSISTENT, SHAPE)),
+    ("FACT of persistent facts", |s| s.blames(PERSISTENT, FACT)),
+    ("ORDER of persistent facts", |s| s.blames(PERSISTENT, ORDER)),
+    ("names used at the end", |s| s.named.left),
+    ("USED, in use at the start", |s| s.verdict.number == USED && s.named.from_start),
+    ("USED, made by a step", |s| s.verdict.number == USED && !s.named.from_start),
+    ("USED, not the list's first", |s| s.verdict.number == USED && s.named.later),
+    ("BLOCKED, with a used name", |s| s.verdict.number == BLOCKED && s.named.again),
+    ("SHAPE of names in use", |s| s.blames(NAMES_IN_USE, SHAPE)),
+    ("BADNAME of names in use", |s| s.blames(NAMES_IN_USE, BADNAME)),
+    ("ORDER of names in use", |s| s.blames(NAMES_IN_USE, ORDER)),
+    ("SHAPE of a rule's names", |s| s.blames_made(SHAPE)),
+    ("COUNT of a rule's names", |s| s.blames_made(COUNT)),
+    ("BADNAME of a rule's names", |s| s.blames_made(BADNAME)),
+    ("ORDER of a rule's names", |s| s.blames_made(ORDER)),
     ("VERSION of a model, 0", |s| s.has_version(MODEL, 0)),
-    ("VERSION of a model, 3", |s| s.has_version(MODEL, 3)),
+    ("VERSION of a model, 4", |s| s.has_version(MODEL, 4)),
     ("VERSION of a model, 255", |s| s.has_version(MODEL, 255)),
     ("VERSION of a trace, 2", |s| s.has_version(TRACE, 2)),
 ];
 
 impl Seen<'_> {
-    fn blames_persistent(&self, number: u8) -> bool {
-        let Verdict { mark, start, len, .. } = *self.verdict;
-        let is_there =
-            mark == MODEL && persistent_part(&self.pair.model) == Some(Part { start, len });
-        self.verdict.number == number && is_there
+    /// Refused for a section of bare numbers that only later versions have. An empty one has no bytes.
+    fn blames(&self, section: usize, number: u8) -> bool {
+        let (model, Verdict { mark, start, len, .. }) = (&self.pair.model, *self.verdict);
+        let is_number = self.verdict.number == number && mark == MODEL && len > 0;
+        let part = Some(Part { start, len });
+        is_number && bare_sections(model) > section && section_part(model, section) == part
+    }
+
+    /// Refused for the names of a rule and for nothing else in it.
+    fn blames_made(&self, number: u8) -> bool {
+        let (model, Verdict { mark, start, len, .. }) = (&self.pair.model, *self.verdict);
+        let is_number = self.verdict.number == number && mark == MODEL;
+        is_number && names_at_fault(model, Part { start, len }) == Some(number)
     }
 
     /// Refused for a version, and for which.
@@ -50,13 +89,26 @@ impl Seen<'_> {
 }
 
 /// The verdict with the section of persistent facts emptied.
-fn without_persistence(pair: &Pair, verdict: &Verdict) -> Verdict {
-    match parse(&pair.model, &pair.trace) {
-        Ok(mut parsed) if verdict.number != ROOM && asks_for_persistent(&parsed) => {
-            parsed.model.persistent = Some(Vec::new());
-            run(&parsed).verdict
-        }
-        _ => *verdict,
+fn without_persistence(mut parsed: Parsed, verdict: &Verdict) -> Verdict {
+    if !asks_for_persistent(&parsed) {
+        return *verdict;
+    }
+    parsed.model.persistent = Some(Vec::new());
+    run(&parsed).verdict
+}
+
+fn named(Parsed { model, trace, .. }: &Parsed, verdict: &Verdict) -> Named {
+    let Some(start) = &model.names else { return Named::default() };
+    let makes = |step: &u16| &model.rules[*step as usize].names;
+    // For ATTACK and NOATTACK the step is the count of steps, and none stops.
+    let (fired, stops) = trace.steps.split_at(verdict.step);
+    let used: BTreeSet<u16> = start.iter().chain(fired.iter().flat_map(makes)).copied().collect();
+    let stopped = stops.first().map(makes).map_or(&[][..], Vec::as_slice);
+    Named {
+        again: stopped.iter().any(|name| used.contains(name)),
+        from_start: start.contains(&verdict.fact),
+        later: stopped.first() != Some(&verdict.fact),
+        left: !used.is_empty(),
     }
 }
 
@@ -76,7 +128,11 @@ pub struct Tally {
 impl Tally {
     pub fn add(&mut self, pair: &Pair, verdict: &Verdict) {
         self.numbers[verdict.number as usize] += 1;
-        let seen = Seen { pair, verdict, without: without_persistence(pair, verdict) };
+        let mut seen = Seen { pair, verdict, without: *verdict, named: Named::default() };
+        if let (Ok(parsed), true) = (parse(&pair.model, &pair.trace), verdict.number != ROOM) {
+            seen.named = named(&parsed, verdict);
+            seen.without = without_persistence(parsed, verdict);
+        }
         for (times, (_, counts)) in self.rows.iter_mut().zip(ROWS) {
             *times += counts(&seen) as u64;
         }

@@ -6,9 +6,9 @@ use common::judge;
 use second::*;
 
 /// The greatest step, fact, rounds, held, start, length and round of each verdict.
-fn greatest() -> [[usize; 7]; 12] {
-    let mut most = [[0; 7]; 12];
-    // A dozen turns have each kind in most of its ways.
+fn greatest() -> [[usize; 7]; 14] {
+    let mut most = [[0; 7]; 14];
+    // Eight turns have each kind in most of its ways.
     for index in (gen::AT_BOUNDS - 1..10_000).step_by(gen::AT_BOUNDS as usize) {
         let pair = gen::pair(1, index);
         let Verdict { number, step, fact, rounds, held, round, start, len, .. } =
@@ -31,10 +31,13 @@ fn every_field_of_every_verdict_gets_large() {
     };
     large(ATTACK, &[0, 2, 3]);
     large(LONG, &[5]);
-    [SHAPE, COUNT, FACT, ORDER].iter().for_each(|number| large(*number, &[4, 5]));
+    [SHAPE, COUNT, FACT, ORDER, BADNAME].iter().for_each(|number| large(*number, &[4, 5]));
     // A name has 2 bytes.
     large(NAME, &[4]);
     [BLOCKED, NOATTACK].iter().for_each(|number| large(*number, &[0, 1, 2, 3, 4, 6]));
+    // The fact of USED is a name, and it has no round.
+    large(USED, &[0, 1, 2, 3, 4]);
+    assert_eq!([most[USED as usize][0], most[USED as usize][1]], [1_023, 1_023]);
     let any = |field: usize| most.iter().map(|row| row[field]).max().unwrap();
     // Steps, facts, facts held and rounds at their bounds, sums and lengths of over two bytes, places in a model's last
     // bytes.

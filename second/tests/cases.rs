@@ -11,6 +11,7 @@ fn desk_bytes() {
         facts: 6,
         initial: vec![0, 1, 4],
         persistent: None,
+        names: None,
         clauses: vec![clause(2, &[0, 1]), clause(5, &[2, 4])],
         rules: vec![rule(&[5], &[3], &[3]), rule(&[0], &[], &[]), rule(&[1], &[], &[1])],
         attacks: vec![attack(&[3, 5], &[]), attack(&[4], &[0])],
@@ -51,12 +52,14 @@ fn cases_a_to_g_and_their_buffers() {
         (2, &[], g, (1, 5, 2), 0xA5, [7; 6]),
     ];
     for (goal, steps, text, at, byte, numbers) in cases {
-        let (mut state, mut table) = ([0xA5; 513], [7; 4_097]);
-        let v = check(&hex(DESK), &write_trace(goal, steps), &mut state, &mut table);
+        let (mut state, mut table, mut names) = ([0xA5; 513], [7; 4_097], [0x3C; 129]);
+        let trace = write_trace(goal, steps);
+        let v = check(&hex(DESK), &trace, &mut state, &mut table, &mut names);
         assert_eq!((line(&v).as_str(), (v.mark, v.start, v.len)), (text, at));
         let (rest, none) = if goal == 2 { (0xA5, 7) } else { (0, NONE) };
         assert!(state[0] == byte && state[1..512] == [rest; 511] && state[512] == 0xA5);
         assert!(table[..6] == numbers && table[6..4_096] == [none; 4_090] && table[4_096] == 7);
+        assert!(names[..128] == [if goal == 2 { 0x3C } else { 0 }; 128] && names[128] == 0x3C);
     }
 }
 
@@ -296,12 +299,13 @@ fn the_stream_is_mixed_and_repeatable() {
     for index in 0..20_000 {
         let pair = gen::pair(2, index);
         assert_eq!(pair, gen::pair(2, index));
-        let v = judge_in(&pair.model, &pair.trace, pair.state_len, pair.table_len);
+        let room = (pair.state_len, pair.table_len, pair.names_len);
+        let v = judge_in(&pair.model, &pair.trace, room);
         assert_ne!(v.number, NEGATED);
         tally.add(&pair, &v);
         let sound = gen::sound(2, index);
         let number = judge(&sound.model, &sound.trace).number;
-        assert!([ATTACK, BLOCKED, NOATTACK].contains(&number));
+        assert!([ATTACK, BLOCKED, NOATTACK, USED].contains(&number));
         assert_eq!(write_model(&parse_model(&sound.model).unwrap()), sound.model);
     }
     assert!(tally.is_mixed());

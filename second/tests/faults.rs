@@ -9,8 +9,7 @@ use second::*;
 struct Files {
     model: Vec<u8>,
     trace: Vec<u8>,
-    state_len: usize,
-    table_len: usize,
+    room: Room,
 }
 
 /// Where the bytes at fault lie in the marked file.
@@ -31,12 +30,13 @@ type Row = (&'static str, u8, u8, Where, fn(&mut Files));
 /// that holds readings 9, 10 and 12 too. The untouched pair is goal a1 after r0, r2 and r0, which
 /// is BLOCKED at the last, and so every row is also a pair with that.
 const ROWS: &[Row] = &[
-    ("short state", ROOM, MODEL, At(0, 0), |f| f.state_len = 511),
-    ("short table", ROOM, MODEL, At(0, 0), |f| f.table_len = 4_095),
+    ("short state", ROOM, MODEL, At(0, 0), |f| f.room.0 = 511),
+    ("short table", ROOM, MODEL, At(0, 0), |f| f.room.1 = 4_095),
+    ("short names", ROOM, MODEL, At(0, 0), |f| f.room.2 = 127),
     // The whole file, whatever it holds.
     ("long model", LONG, MODEL, From(0), |f| f.model.resize(65_537, 0)),
     ("long trace", LONG, TRACE, From(0), |f| f.trace.resize(4_097, 0)),
-    ("model version", VERSION, MODEL, At(0, 1), |f| f.model[0] = 3),
+    ("model version", VERSION, MODEL, At(0, 1), |f| f.model[0] = 4),
     ("trace version", VERSION, TRACE, At(0, 1), |f| f.trace[0] = 0),
     // Sizes: length at 1, payload at 5. A length of 3 fits the file, so the payload is blamed.
     ("sizes length", SHAPE, MODEL, From(1), |f| f.model[1] = 0xFF),
@@ -126,12 +126,12 @@ fn expect(row: &Row, files: &Files, what: &str) {
         }
         Last(len) => (file.len() - len, len),
     };
-    let v = judge_in(&files.model, &files.trace, files.state_len, files.table_len);
+    let v = judge_in(&files.model, &files.trace, files.room);
     assert_eq!(place(v), (number, mark, start, len), "{what}");
 }
 
 fn untouched() -> Files {
-    Files { model: hex(DESK), trace: write_trace(1, &[0, 2, 0]), state_len: 512, table_len: 4_096 }
+    Files { model: hex(DESK), trace: write_trace(1, &[0, 2, 0]), room: (512, 4_096, 128) }
 }
 
 #[test]

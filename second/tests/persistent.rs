@@ -18,6 +18,7 @@ fn mandate() -> Model {
         facts: 2,
         initial: vec![0],
         persistent: Some(vec![1]),
+        names: None,
         clauses: vec![clause(1, &[0])],
         rules: vec![rule(&[1], &[], &[]), rule(&[0], &[], &[])],
         attacks: vec![attack(&[1], &[])],
@@ -62,8 +63,9 @@ fn a_persistent_fact_that_is_derived_goes_with_its_derivation() {
 fn state_after(persistent: Option<&[u16]>, pos: &[u16], add: &[u16]) -> u8 {
     let (rules, persistent) = (vec![rule(pos, &[], add)], persistent.map(<[u16]>::to_vec));
     let model = Model { initial: vec![0, 1, 2], persistent, rules, ..bare(8) };
-    let (mut state, mut table) = ([0xA5; 512], [7; 4_096]);
-    let v = check(&write_model(&model), &write_trace(0, &[0]), &mut state, &mut table);
+    let (mut state, mut table, mut names) = ([0xA5; 512], [7; 4_096], [0x3C; 128]);
+    let trace = write_trace(0, &[0]);
+    let v = check(&write_model(&model), &trace, &mut state, &mut table, &mut names);
     assert_eq!((v.number, v.step, v.held), (ATTACK, 1, state[0].count_ones() as usize));
     assert!(state[1..] == [0; 511]);
     state[0]
@@ -183,7 +185,7 @@ type Row = (&'static str, u8, usize, Option<usize>, fn(&mut Vec<u8>));
 /// In the order in which they are judged, each with the start and the length of the bytes at fault;
 /// without a length they go up to the file's end.
 const ROWS: &[Row] = &[
-    ("version 3", VERSION, 0, Some(1), |m| m[0] = 3),
+    ("version 4", VERSION, 0, Some(1), |m| m[0] = 4),
     ("F of 4,102", COUNT, 5, Some(2), |m| m[5] = 0x10),
     ("initial 1 1 4", ORDER, 11, Some(6), |m| m[12] = 1),
     ("length", SHAPE, 17, None, |m| m[17] = 0xFF),
@@ -274,7 +276,7 @@ fn heads_and_facts_never_stored_may_be_persistent() {
 #[test]
 fn the_versions_that_there_are() {
     for model in [hex(DESK), desk()] {
-        for version in [0, 3, 4, 127, 128, 254, 255] {
+        for version in [0, 4, 5, 127, 128, 254, 255] {
             let mut other = model.clone();
             other[0] = version;
             let v = judge(&other, &write_trace(0, &[]));

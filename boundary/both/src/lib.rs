@@ -46,28 +46,60 @@ fn values(v: &Verdict) -> [u64; VALUES] {
     [number, step, fact, rounds, held, kind, round, mark, start, len].map(|n| n as u64)
 }
 
+/// The three buffers of a check, each with its guards.
+#[derive(Clone)]
+struct Buffers {
+    state: Vec<u8>,
+    table: Vec<u16>,
+    names: Vec<u8>,
+}
+
+impl Buffers {
+    fn new(state: &[u8], table: &[u16], names: &[u8]) -> Buffers {
+        Buffers {
+            state: guarded(state, 0xC3),
+            table: guarded(table, 0xC3C3),
+            names: guarded(names, 0xC3),
+        }
+    }
+
+    /// What is lent to a check.
+    fn lent(&mut self) -> (&mut [u8], &mut [u16], &mut [u8]) {
+        (inside(&mut self.state), inside(&mut self.table), inside(&mut self.names))
+    }
+
+    fn same(&self, when: &str, theirs: &Buffers) -> Result<(), String> {
+        same_area(&format!("the state{when}"), &self.state, &theirs.state)?;
+        same_area(&format!("the table{when}"), &self.table, &theirs.table)?;
+        same_area(&format!("the names{when}"), &self.names, &theirs.names)
+    }
+}
+
 /// A verdict of both, or what differs. The buffers are left as both leave them.
 pub fn check(
     model: &[u8],
     trace: &[u8],
     state: &mut [u8],
     table: &mut [u16],
+    names: &mut [u8],
 ) -> Result<Verdict, String> {
-    let (mut our_state, mut our_table) = (guarded(state, 0xC3), guarded(table, 0xC3C3));
-    let (mut state_2, mut table_2) = (our_state.clone(), our_table.clone());
+    let mut ours = Buffers::new(state, table, names);
+    let mut theirs = ours.clone();
     let mut our_out = guarded(&[7; VALUES + 1], 9);
     let mut out_2 = our_out.clone();
-    let (s, t, o) = (inside(&mut our_state), inside(&mut our_table), inside(&mut our_out));
-    let number = cantivorex::check_into(model, trace, s, t, o);
-    let verdict = second::check(model, trace, inside(&mut state_2), inside(&mut table_2));
+    let (s, t, n) = ours.lent();
+    let number = cantivorex::check_into(model, trace, s, t, n, inside(&mut our_out));
+    let (s, t, n) = theirs.lent();
+    let verdict = second::check(model, trace, s, t, n);
     inside(&mut out_2)[..VALUES].copy_from_slice(&values(&verdict));
     same("the number", number, verdict.number)?;
     same_area("the verdict's values", &our_out, &out_2)?;
-    same_area("the state", &our_state, &state_2)?;
-    same_area("the table", &our_table, &table_2)?;
+    ours.same("", &theirs)?;
     part(model, trace, verdict.mark, verdict.start, verdict.len, verdict.len)?;
-    state.copy_from_slice(inside(&mut our_state));
-    table.copy_from_slice(inside(&mut our_table));
+    let (s, t, n) = ours.lent();
+    state.copy_from_slice(s);
+    table.copy_from_slice(t);
+    names.copy_from_slice(n);
     Ok(verdict)
 }
 
@@ -77,14 +109,15 @@ pub fn check_short(
     trace: &[u8],
     state: &[u8],
     table: &[u16],
+    names: &[u8],
     entries: usize,
 ) -> Result<(), String> {
-    let (mut our_state, mut our_table) = (guarded(state, 0xC3), guarded(table, 0xC3C3));
+    let mut ours = Buffers::new(state, table, names);
+    let before = ours.clone();
     let mut out = vec![7; entries];
-    let (s, t) = (inside(&mut our_state), inside(&mut our_table));
-    same("a short out", cantivorex::check_into(model, trace, s, t, &mut out), 1)?;
-    same_area("the state under a short out", &our_state, &guarded(state, 0xC3))?;
-    same_area("the table under a short out", &our_table, &guarded(table, 0xC3C3))?;
+    let (s, t, n) = ours.lent();
+    same("a short out", cantivorex::check_into(model, trace, s, t, n, &mut out), 1)?;
+    ours.same(" under a short out", &before)?;
     same("a short out's entries", out, vec![7; entries])
 }
 

@@ -1,10 +1,12 @@
-//! A plain Rust reader of a model in place, to measure against: the number of 2 to 7, or 0, without
-//! lists and without places.
+//! A plain Rust reader of a model in place, to measure against: the number of 2 to 7 or 12, or 0,
+//! without lists and without places.
 
-/// The least fault number so far; 0 is none.
+/// Of two faults of a record the one that is judged first; 0 is none.
 fn worse(a: u8, b: u8) -> u8 {
     match (a, b) {
         (0, n) | (n, 0) => n,
+        // A name is judged before the order.
+        (12, 7) | (7, 12) => 12,
         _ => a.min(b),
     }
 }
@@ -30,41 +32,47 @@ fn record<'a>(rest: &mut &'a [u8]) -> Option<&'a [u8]> {
     Some(bytes)
 }
 
-/// 6 and 7 of a list of facts.
-fn list_fault(list: &[u8], facts: usize) -> u8 {
+/// What the numbers of a list stay below, and what one that doesn't is.
+#[derive(Clone, Copy)]
+struct Below(usize, u8);
+
+const NAMES: Below = Below(1_024, 12);
+
+/// 6 or 12, and 7, of a list of facts or names.
+fn list_fault(list: &[u8], Below(end, too_great): Below) -> u8 {
     let (mut fault, mut least) = (0, 0);
-    for fact in list.chunks_exact(2).map(word) {
-        if fact >= facts {
-            return 6;
+    for number in list.chunks_exact(2).map(word) {
+        if number >= end {
+            return too_great;
         }
-        if fact < least {
+        if number < least {
             fault = 7;
         }
-        least = fact + 1;
+        least = number + 1;
     }
     fault
 }
 
-fn clause_fault(clause: &[u8], facts: usize) -> u8 {
+fn clause_fault(clause: &[u8], facts: Below) -> u8 {
     if clause.len() < 2 || clause.len() % 2 == 1 {
         return 4;
     }
     if clause.len() > 2 + 2 * 16 {
         return 5;
     }
-    let head = if word(clause) < facts { 0 } else { 6 };
+    let head = if word(clause) < facts.0 { 0 } else { 6 };
     worse(head, list_fault(&clause[2..], facts))
 }
 
-/// 4 to 7 of a record of lists.
-fn lists_fault(record: &[u8], count: usize, facts: usize) -> u8 {
+/// 4 to 7 and 12 of a record of lists.
+fn lists_fault(record: &[u8], lists: &[Below]) -> u8 {
     let (mut rest, mut fault) = (record, 0);
-    for _ in 0..count {
+    for below in lists {
         let Some((len, after)) = rest.split_at_checked(2) else { return 4 };
         let Some((list, after)) = after.split_at_checked(2 * word(len)) else { return 4 };
         rest = after;
         fault = worse(fault, if word(len) > 32 { 5 } else { 0 });
-        fault = worse(fault, list_fault(list, facts));
+        fault = worse(fault, list_fault(list, *below));
     }
     if rest.is_empty() {
         fault
@@ -92,7 +100,7 @@ pub fn judge(model: &[u8]) -> u8 {
         return 2;
     }
     match model.first() {
-        Some(version @ (1 | 2)) => judge_sections(*version, &model[1..]).err().unwrap_or(0),
+        Some(version @ 1..=3) => judge_sections(*version, &model[1..]).err().unwrap_or(0),
         _ => 3,
     }
 }
@@ -108,19 +116,21 @@ fn none(number: u8) -> Result<(), u8> {
 fn judge_sections(version: u8, mut rest: &[u8]) -> Result<(), u8> {
     let sizes = section(&mut rest).ok_or(4)?;
     none(if sizes.len() == 2 { 0 } else { 4 })?;
-    let facts = word(sizes);
-    none(if facts > 4_096 { 5 } else { 0 })?;
-    // Version 2 has its persistent facts after the initial ones.
-    for _ in 0..if version == 2 { 2 } else { 1 } {
+    let facts = Below(word(sizes), 6);
+    none(if facts.0 > 4_096 { 5 } else { 0 })?;
+    // The initial facts; version 2 has persistent facts after them, version 3 names after those.
+    for below in &[facts, facts, NAMES][..version as usize] {
         let bare = section(&mut rest).ok_or(4)?;
-        none(if bare.len() % 2 == 1 { 4 } else { list_fault(bare, facts) })?;
+        none(if bare.len() % 2 == 1 { 4 } else { list_fault(bare, *below) })?;
     }
+    let lists = [facts, facts, facts, NAMES];
     let clauses = section(&mut rest).ok_or(4)?;
     none(records(clauses, 4_096, |clause| clause_fault(clause, facts)))?;
     let rules = section(&mut rest).ok_or(4)?;
-    none(records(rules, 2_048, |rule| lists_fault(rule, 3, facts)))?;
+    let of_a_rule = if version < 3 { &lists[..3] } else { &lists };
+    none(records(rules, 2_048, |rule| lists_fault(rule, of_a_rule)))?;
     let goals = section(&mut rest).ok_or(4)?;
-    none(records(goals, 64, |goal| lists_fault(goal, 2, facts)))?;
+    none(records(goals, 64, |goal| lists_fault(goal, &lists[..2])))?;
     none(if rest.is_empty() { 0 } else { 4 })
 }
 

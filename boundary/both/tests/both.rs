@@ -1,5 +1,5 @@
 //! The second program's own tests, run through both programs: cases A to L, the edges, every fault and every two faults
-//! together, version 2.
+//! together, versions 2 and 3.
 //! Those tests say `second`; here that is this file, whose `check`, `close_api` and `count_api` make each call of both
 //! and compare.
 
@@ -10,13 +10,22 @@ extern crate self as second;
 mod cases;
 #[path = "../../../second/tests/faults.rs"]
 mod faults;
+#[path = "../../../second/tests/names.rs"]
+mod names;
 #[path = "../../../second/tests/persistent.rs"]
 mod persistent;
 
 pub use other::*;
 
-pub fn check(model: &[u8], trace: &[u8], state: &mut [u8], table: &mut [u16]) -> Verdict {
-    both::check(model, trace, state, table).unwrap_or_else(|difference| panic!("{difference}"))
+pub fn check(
+    model: &[u8],
+    trace: &[u8],
+    state: &mut [u8],
+    table: &mut [u16],
+    names: &mut [u8],
+) -> Verdict {
+    let verdict = both::check(model, trace, state, table, names);
+    verdict.unwrap_or_else(|difference| panic!("{difference}"))
 }
 
 pub fn close_api(model: &[u8], state: &[u8], table: &mut [u16]) -> Result<usize, u8> {

@@ -1,8 +1,8 @@
 //! The edges of document 01: a pair on each side of every bound and one for each fault, through the proved library; the
-//! same for version 2, and what a step does to persistent facts; and what models have. What must come out was worked
-//! out by hand: EDGES.md has the reasoning, edges.txt, effects.txt and figures.txt the lines.
+//! same for versions 2 and 3, and what a step does to persistent facts and to names; and what models have. What must
+//! come out was worked out by hand: EDGES.md has the reasoning, edges.txt, effects.txt and figures.txt the lines.
 
-use cantivorex::{Counts, STATE_BYTES, TABLE_ENTRIES};
+use cantivorex::{Counts, Verdict, NAMES_BYTES, STATE_BYTES, TABLE_ENTRIES};
 use second::gen::{write_model, write_trace};
 use second::{Attack, Clause, Model, Rule};
 
@@ -60,6 +60,24 @@ fn plain() -> Files {
 /// The plain pair with its model as version 2.
 fn persistent(facts: Vec<u16>) -> Files {
     listed(|l| l.model.persistent = Some(facts))
+}
+
+/// The plain pair with its model as version 3 and these names in use.
+fn in_use(names: Vec<u16>) -> Files {
+    named(|l| l.model.names = Some(names))
+}
+
+/// The same without a name in use, and changed.
+fn named(change: impl FnOnce(&mut Lists)) -> Files {
+    listed(|l| {
+        (l.model.persistent, l.model.names) = (Some(vec![]), Some(vec![]));
+        change(l);
+    })
+}
+
+/// The same with these names that the rule makes.
+fn makes(names: Vec<u16>) -> Files {
+    named(|l| l.model.rules[0].names = names)
 }
 
 /// Changes to the written bytes.
@@ -189,7 +207,7 @@ fn other_faults() -> Vec<Case> {
         ("the last byte missing", plain().model_of(44)),
         ("one byte more", plain().model_of(46)),
         ("the trace's last byte missing", plain().trace_of(8)),
-        ("version 3", plain().model_version(3)),
+        ("version 4", plain().model_version(4)),
         ("a fact twice in a rule's P", in_rule(|r| r.pos = vec![0, 0])),
         ("a head in a rule's N", listed(head_in_n)),
         ("an attack state that is missing", listed(|l| l.goal = 1)),
@@ -252,12 +270,12 @@ fn too_many_facts(lists: &mut Lists) {
 
 fn the_first_of_two() -> Vec<Case> {
     let many_steps = listed(|l| repeat(&mut l.steps, 1_025)).trace_of(2_058);
-    let long_trace = plain().trace_of(4_097).model_version(3);
+    let long_trace = plain().trace_of(4_097).model_version(4);
     let newer_trace = plain().trace_version(2).model_of(44);
     vec![
         ("F 4097 and initial fact 4097", listed(too_many_facts)),
         ("1025 steps and a byte more", many_steps),
-        ("a trace of 4097 bytes and a model of version 3", long_trace),
+        ("a trace of 4097 bytes and a model of version 4", long_trace),
         ("a trace of version 2 and a model's last byte missing", newer_trace),
     ]
 }
@@ -331,10 +349,97 @@ fn persistent_and_another() -> Vec<Case> {
     ]
 }
 
+fn version_3() -> Vec<Case> {
+    // The rules' length and the rule: with four lists in version 2, with three in version 3.
+    let four = [0, 0, 0, 12, 0, 10, 0, 1, 0, 0, 0, 0, 0, 0, 0, 0];
+    let three = [0, 0, 0, 10, 0, 8, 0, 1, 0, 0, 0, 0, 0, 0];
+    vec![
+        ("version 3 without its sections", plain().model_version(3)),
+        ("version 2 with the names' section", in_use(vec![1]).model_version(2)),
+        ("version 2 with a fourth list", persistent(vec![]).with(25, 39, &four)),
+        ("version 3 without the fourth list", in_use(vec![]).with(29, 45, &three)),
+        ("a trace of version 3 and a model of version 3", in_use(vec![]).trace_version(3)),
+    ]
+}
+
+/// The longest model of version 3 without a fault.
+fn full_3(lists: &mut Lists) {
+    full(lists);
+    lists.model.initial = facts(0, 1_047);
+    lists.model.persistent = Some(facts(0, 2_000));
+    lists.model.names = Some(facts(0, 1_024));
+}
+
+/// All names that there are, and another number.
+fn all_in_use(more: u16) -> Files {
+    in_use(facts(0, 1_024).into_iter().chain([more]).collect())
+}
+
+fn names_in_use() -> Vec<Case> {
+    vec![
+        ("no name in use", in_use(vec![])),
+        ("name 1023 in use", in_use(vec![1_023])),
+        ("name 1024 in use", in_use(vec![1_024])),
+        ("1024 names in use", in_use(facts(0, 1_024))),
+        ("1024 names in use and name 1024", all_in_use(1_024)),
+        ("1024 names in use and the last again", all_in_use(1_023)),
+        ("a full model of version 3", listed(full_3)),
+        ("a name in use twice", in_use(vec![5, 5])),
+        ("the last name in use below the one before", in_use(vec![0, 2, 1])),
+        ("half a name in use", in_use(vec![]).with(15, 19, &[0, 0, 0, 1, 0])),
+        ("the names' length too long", in_use(vec![]).with(17, 18, &[1])),
+        ("no names' section", in_use(vec![]).model_of(15)),
+        ("three bytes of the names' length", in_use(vec![]).model_of(18)),
+    ]
+}
+
+fn names_that_a_rule_makes() -> Vec<Case> {
+    vec![
+        ("32 names in a rule", makes(facts(0, 32))),
+        ("33 names in a rule", makes(facts(0, 33))),
+        ("name 1023 in a rule", makes(vec![1_023])),
+        ("name 1024 in a rule", makes(vec![1_024])),
+        ("a name twice in a rule", makes(vec![5, 5])),
+        ("a rule's one name missing", makes(vec![]).with(43, 45, &[0, 1])),
+    ]
+}
+
+/// Two faults, one of them of a name.
+fn names_and_another() -> Vec<Case> {
+    let persistent_too = |l: &mut Lists| {
+        (l.model.persistent, l.model.names) = (Some(vec![40]), Some(vec![1_024]));
+    };
+    let head_too = |l: &mut Lists| {
+        (l.model.clauses[0].head, l.model.names) = (40, Some(vec![1_024]));
+    };
+    let fact_too = |l: &mut Lists| {
+        (l.model.rules[0].add, l.model.rules[0].names) = (vec![40], vec![1_024]);
+    };
+    let twice_too = |l: &mut Lists| {
+        (l.model.rules[0].pos, l.model.rules[0].names) = (vec![0, 0], vec![1_024]);
+    };
+    let one_more = |l: &mut Lists| {
+        repeat(&mut l.model.rules, 2_049);
+        l.model.rules[2_048].names = vec![1_024];
+    };
+    let half = in_use(vec![]).with(15, 19, &[0, 0, 0, 3, 4, 0, 0]);
+    let many = facts(0, 32).into_iter().chain([1_024]).collect();
+    vec![
+        ("persistent fact F and name 1024 in use", named(persistent_too)),
+        ("name 1024 in use and head F", named(head_too)),
+        ("name 1024 in use and half a name", half),
+        ("names 2, 1 and 1024 in use", in_use(vec![2, 1, 1_024])),
+        ("33 names in a rule, the last 1024", makes(many)),
+        ("fact F in a rule's A and name 1024", named(fact_too)),
+        ("a fact twice in a rule's P and name 1024", named(twice_too)),
+        ("a 2049th rule with name 1024", named(one_more)),
+    ]
+}
+
 /// Models whose figures tell what is counted: records and not bytes, F and not the initial facts.
 fn what_is_counted() -> Vec<Case> {
     let two_clauses = listed(|l| l.model.clauses.push(Clause { head: 0, body: facts(0, 16) }));
-    let full_rule = Rule { pos: facts(0, 32), neg: facts(1, 32), add: facts(0, 32) };
+    let full_rule = Rule { pos: facts(0, 32), neg: facts(1, 32), add: facts(0, 32), names: vec![] };
     let full_goal = Attack { pos: facts(0, 32), neg: facts(1, 32) };
     let all_different = listed(|l| {
         l.model.facts = 300;
@@ -367,6 +472,10 @@ fn models() -> Vec<Case> {
         versions,
         persistent_facts,
         persistent_and_another,
+        version_3,
+        names_in_use,
+        names_that_a_rule_makes,
+        names_and_another,
     ];
     groups.iter().flat_map(|group| group()).collect()
 }
@@ -386,6 +495,10 @@ fn cases() -> Vec<Case> {
         versions,
         persistent_facts,
         persistent_and_another,
+        version_3,
+        names_in_use,
+        names_that_a_rule_makes,
+        names_and_another,
     ];
     groups.iter().flat_map(|group| group()).collect()
 }
@@ -477,17 +590,67 @@ fn effects() -> Vec<Case> {
     ]
 }
 
-fn whole_line((label, files): &Case) -> String {
+/// Rule 0 has P 1, which is persistent, and makes names; these are in use, and those are the steps.
+fn minted(in_use: Vec<u16>, names: Vec<u16>, steps: &[u16]) -> Files {
+    effect(|l| {
+        (l.model.persistent, l.model.names) = (Some(vec![1]), Some(in_use));
+        l.model.rules[0].names = names;
+        l.steps = steps.to_vec();
+    })
+}
+
+/// The same with name 5, in use, and other conditions.
+fn conditioned(pos: &[u16], neg: &[u16]) -> Files {
+    effect(|l| {
+        l.model.names = Some(vec![5]);
+        l.model.rules[0] =
+            Rule { pos: pos.to_vec(), neg: neg.to_vec(), add: vec![], names: vec![5] };
+    })
+}
+
+fn its_fact_goes(lists: &mut Lists) {
+    lists.model.names = Some(vec![]);
+    lists.model.rules = vec![rule(&[0], &[]), rule(&[], &[])];
+    lists.model.rules.iter_mut().for_each(|rule| rule.names = vec![0]);
+    lists.steps = vec![0, 1];
+}
+
+/// In the order of EDGES.md.
+fn effects_of_names() -> Vec<Case> {
+    let version_2 = effect(|l| {
+        l.model.persistent = Some(vec![1]);
+        l.steps = vec![0, 0];
+    });
+    vec![
+        ("a name that is unused", minted(vec![], vec![5], &[0])),
+        ("a name that is in use", minted(vec![5], vec![5], &[0])),
+        ("a name that is made twice", minted(vec![], vec![5], &[0, 0])),
+        ("no name, made twice", minted(vec![5], vec![], &[0, 0])),
+        ("the same in version 2", version_2),
+        ("the second of two names in use", minted(vec![6], vec![5, 6], &[0])),
+        ("both of two names in use", minted(vec![5, 6], vec![5, 6], &[0])),
+        ("the last of 32 names in use", minted(vec![31], facts(0, 32), &[0])),
+        ("the last of 1024 names in use", minted(facts(0, 1_024), vec![1_023], &[0])),
+        ("the last name after 1023 in use", minted(facts(0, 1_023), vec![1_023], &[0])),
+        ("a missing fact and a name in use", conditioned(&[1, 3], &[])),
+        ("a fact in the way and a name in use", conditioned(&[1], &[2])),
+        ("a name whose fact goes", effect(its_fact_goes)),
+    ]
+}
+
+fn verdict(files: &Files) -> Verdict {
     let (mut state, mut table) = ([0; STATE_BYTES], [0; TABLE_ENTRIES]);
-    let v = cantivorex::check(&files.model, &files.trace, &mut state, &mut table);
-    format!("{label}: {}", v.line())
+    cantivorex::check(&files.model, &files.trace, &mut state, &mut table, &mut [0; NAMES_BYTES])
+}
+
+fn whole_line((label, files): &Case) -> String {
+    format!("{label}: {}", verdict(files).line())
 }
 
 fn line((label, files): &Case) -> String {
-    let (mut state, mut table) = ([0; STATE_BYTES], [0; TABLE_ENTRIES]);
-    let v = cantivorex::check(&files.model, &files.trace, &mut state, &mut table);
+    let v = verdict(files);
     match v.number {
-        0 | 10 | 11 => format!("{label}: fine"),
+        0 | 10 | 11 | 13 => format!("{label}: fine"),
         number => {
             format!("{label}: number {number} mark {} start {} size {}", v.mark, v.start, v.size)
         }
@@ -527,6 +690,15 @@ fn the_plain_pair_is_the_one_of_the_page() {
     let hex = |bytes: &[u8]| bytes.iter().map(|b| format!("{b:02X}")).collect::<String>();
     assert_eq!(hex(&plain().model), model);
     assert_eq!(hex(&plain().trace), "010000000400000000");
+    let sections = [
+        "00000002 0028",
+        "00000000 00000000 00000000",
+        "00000006 0004 0000 0000",
+        "0000000C 000A 0001 0000 0000 0000 0000",
+        "00000006 0004 0000 0000",
+    ];
+    let model = format!("03{}", sections.concat()).replace(' ', "");
+    assert_eq!(hex(&in_use(vec![]).model), model);
 }
 
 #[test]
@@ -536,7 +708,8 @@ fn every_edge_gives_what_was_worked_out_by_hand() {
 
 #[test]
 fn every_effect_is_what_was_worked_out_by_hand() {
-    agree(&effects(), whole_line, include_str!("effects.txt"));
+    let all: Vec<Case> = effects().into_iter().chain(effects_of_names()).collect();
+    agree(&all, whole_line, include_str!("effects.txt"));
 }
 
 #[test]

@@ -15,9 +15,9 @@ fn main() {
         let begun = Instant::now();
         let pair = gen::pair(seed, index);
         making += begun.elapsed();
-        let (mut state, mut table) = pair.buffers(seed, index);
+        let (mut state, mut table, mut names) = pair.buffers(seed, index);
         let begun = Instant::now();
-        let verdict = check(&pair.model, &pair.trace, &mut state, &mut table);
+        let verdict = check(&pair.model, &pair.trace, &mut state, &mut table, &mut names);
         checking += begun.elapsed();
         tally.add(&pair, &verdict);
     }

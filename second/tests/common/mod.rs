@@ -17,11 +17,15 @@ pub fn hex(text: &str) -> Vec<u8> {
     digits.chunks(2).map(pair).collect()
 }
 
+/// How much of each buffer there is: bytes of the state, entries of the table, bytes of the names.
+pub type Room = (usize, usize, usize);
+
 /// Checks with leftovers in the buffers. What holds for every verdict is asserted here.
-pub fn judge_in(model: &[u8], trace: &[u8], state_len: usize, table_len: usize) -> Verdict {
-    let (mut state, mut table) = (vec![0xA5; state_len], vec![0x5A5A; table_len]);
-    let v = check(model, trace, &mut state, &mut table);
-    let refused = (1..=9).contains(&v.number);
+pub fn judge_in(model: &[u8], trace: &[u8], room: Room) -> Verdict {
+    let (mut state, mut table) = (vec![0xA5; room.0], vec![0x5A5A; room.1]);
+    let mut names = vec![0x3C; room.2];
+    let v = check(model, trace, &mut state, &mut table, &mut names);
+    let refused = (1..=9).contains(&v.number) || v.number == BADNAME;
     if refused {
         assert_eq!((v.step, v.fact, v.rounds, v.held), (0, NONE, 0, 0));
     }
@@ -29,16 +33,24 @@ pub fn judge_in(model: &[u8], trace: &[u8], state_len: usize, table_len: usize) 
     let is_unmet = v.number == BLOCKED || v.number == NOATTACK;
     let round = if is_unmet { table[v.fact as usize] } else { NONE };
     let kind = [NO_KIND, if round == NONE { POSITIVE } else { NEGATIVE }][is_unmet as usize];
-    assert_eq!((v.kind, v.round, v.fact == NONE), (kind, round, !is_unmet));
-    let (bytes, entries) = if refused { (0, 0) } else { (512, 4_096) };
+    // And a name that is used isn't one.
+    let has_fact = is_unmet || v.number == USED;
+    assert_eq!((v.kind, v.round, v.fact != NONE), (kind, round, has_fact));
+    assert!(v.number != USED || names[v.fact as usize / 8] >> (v.fact % 8) & 1 == 1);
+    let (bytes, entries, name_bytes) = if refused { (0, 0, 0) } else { (512, 4_096, 128) };
     assert!(state[bytes..].iter().all(|b| *b == 0xA5));
     assert!(table[entries..].iter().all(|e| *e == 0x5A5A));
+    assert!(names[name_bytes..].iter().all(|b| *b == 0x3C));
+    // Versions 1 and 2 have no names, so that none is used.
+    if !refused && model[0] < 3 {
+        assert!(names[..128] == [0; 128]);
+    }
     assert_eq!(fault_part(model, trace, v.mark, v.start, v.len).len(), v.len);
     v
 }
 
 pub fn judge(model: &[u8], trace: &[u8]) -> Verdict {
-    judge_in(model, trace, 520, 4_100)
+    judge_in(model, trace, (520, 4_100, 130))
 }
 
 /// Number, mark, start and length.
@@ -51,7 +63,7 @@ pub fn clause(head: u16, body: &[u16]) -> Clause {
 }
 
 pub fn rule(pos: &[u16], neg: &[u16], add: &[u16]) -> Rule {
-    Rule { pos: pos.to_vec(), neg: neg.to_vec(), add: add.to_vec() }
+    Rule { pos: pos.to_vec(), neg: neg.to_vec(), add: add.to_vec(), names: vec![] }
 }
 
 pub fn attack(pos: &[u16], neg: &[u16]) -> Attack {

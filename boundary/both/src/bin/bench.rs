@@ -2,7 +2,7 @@
 //! shows the best turn of each; a ratio of 2 says that the library takes twice as long.
 
 use both::plain;
-use second::gen::{self, write_model, write_trace, Rng};
+use second::gen::{self, write_model, write_trace, Pair, Rng};
 use second::{Attack, Clause, Model, Rule};
 use std::hint::black_box;
 use std::process::{Command, Stdio};
@@ -30,7 +30,7 @@ fn main() {
     println!("\nWhole checks, against the second program's check");
     head();
     checks(&desk);
-    println!("\nVersion 2 with the library, against the library");
+    println!("\nVersions 2 and 3 with the library, against the library");
     head();
     versions(&desk);
     println!("\nHow the time grows: closing, ns");
@@ -77,6 +77,27 @@ fn time(times: u32, mut run: impl FnMut() -> u64) -> f64 {
     begun.elapsed().as_nanos() as f64 / times as f64
 }
 
+/// The three buffers of a check.
+struct Lent {
+    state: [u8; 512],
+    table: [u16; 4_096],
+    names: [u8; 128],
+}
+
+impl Lent {
+    fn new() -> Lent {
+        Lent { state: [0; 512], table: [0; 4_096], names: [0; 128] }
+    }
+
+    fn library(&mut self, model: &[u8], trace: &[u8]) -> cantivorex::Verdict {
+        cantivorex::check(model, trace, &mut self.state, &mut self.table, &mut self.names)
+    }
+
+    fn second(&mut self, model: &[u8], trace: &[u8]) -> second::Verdict {
+        second::check(model, trace, &mut self.state, &mut self.table, &mut self.names)
+    }
+}
+
 /// The initial facts as a state.
 fn state(model: &[u8]) -> [u8; 512] {
     let mut state = [0; 512];
@@ -100,10 +121,9 @@ fn closing_alone(name: &str, mut model: Model) {
     };
     let once = time(1, || closings(1));
     let steps = (2e7 / once).clamp(4.0, 1_024.0) as usize;
-    let (mut s, mut ours) = ([0; 512], [0; 4_096]);
+    let mut lent = Lent::new();
     let (with, without) = (write_trace(0, &vec![0; steps]), write_trace(0, &[]));
-    let mut check =
-        |trace: &[u8]| cantivorex::check(&model, trace, &mut s, &mut ours).rounds as u64;
+    let mut check = |trace: &[u8]| lent.library(&model, trace).rounds as u64;
     assert_eq!(check(&with), closings(steps + 1), "{name}");
     let (mut all, mut rest, mut rival) = (f64::MAX, f64::MAX, f64::MAX);
     for _ in 0..15 {
@@ -132,30 +152,23 @@ fn closing(name: &str, model: &[u8]) {
 fn judging(name: &str, model: &[u8]) {
     // The trace is refused by NAME, so that nothing is run.
     let trace = write_trace(u16::MAX, &[]);
-    let (mut state, mut table) = ([0; 512], [0; 4_096]);
+    let mut lent = Lent::new();
     race(
         &format!("{name}, by parser"),
-        || cantivorex::check(black_box(model), &trace, &mut state, &mut table).number as u64,
+        || lent.library(black_box(model), &trace).number as u64,
         || second::parse(black_box(model), &trace).expect_err("refused").number as u64,
     );
     race(
         &format!("{name}, in place"),
-        || cantivorex::check(black_box(model), &trace, &mut state, &mut table).number as u64,
+        || lent.library(black_box(model), &trace).number as u64,
         || plain::judge(black_box(model)) as u64 + 9,
     );
 }
 
 fn check(name: &str, pairs: &[(Vec<u8>, Vec<u8>)]) {
-    let (mut s, mut t) = ([0; 512], [0; 4_096]);
-    let (mut s2, mut t2) = ([0; 512], [0; 4_096]);
-    let ours = || {
-        pairs.iter().map(|(m, tr)| cantivorex::check(m, tr, &mut s, &mut t).rounds).sum::<usize>()
-            as u64
-    };
-    let theirs = || {
-        pairs.iter().map(|(m, tr)| second::check(m, tr, &mut s2, &mut t2).rounds).sum::<usize>()
-            as u64
-    };
+    let [mut one, mut two] = [0; 2].map(|_| Lent::new());
+    let ours = || pairs.iter().map(|(m, tr)| one.library(m, tr).rounds).sum::<usize>() as u64;
+    let theirs = || pairs.iter().map(|(m, tr)| two.second(m, tr).rounds).sum::<usize>() as u64;
     race(name, ours, theirs);
 }
 
@@ -174,10 +187,10 @@ fn checks(desk: &Model) {
     // The same closings without lists: judged once, and closed for each state.
     let trace = write_trace(0, &[0; 1_024]);
     let state = state(&full);
-    let (mut s, mut t, mut t2) = ([0; 512], [0; 4_096], [0; 4_096]);
+    let (mut lent, mut t2) = (Lent::new(), [0; 4_096]);
     race(
         "the same, 1,024 steps, against 1,025 of bench_close",
-        || cantivorex::check(&full, &trace, &mut s, &mut t).rounds as u64,
+        || lent.library(&full, &trace).rounds as u64,
         || {
             let at = second::clause_place(&full).expect("a well-formed model");
             (0..1_025)
@@ -187,44 +200,51 @@ fn checks(desk: &Model) {
     );
 }
 
-/// What version 2 costs: an empty section against none, and all facts against none of them.
+/// What later versions cost: empty sections and lists against none, all facts against none of them, and a name in each
+/// step against none.
 fn versions(desk: &Model) {
-    let newer = Model { persistent: Some(vec![]), ..desk.clone() };
-    for (case, trace) in [("A", write_trace(0, &[0])), ("B", write_trace(0, &[1, 0]))] {
-        against(&format!("desk model, case {case}, empty section"), &newer, desk, &trace);
-    }
-    let pairs = (0..).map(|i| gen::sound(11, i)).map(|p| (p.model, p.trace));
-    let night: Vec<_> = pairs.filter(|(model, _)| model[0] == 1).take(200).collect();
-    let newer: Vec<_> = night.iter().map(|(m, tr)| (with_empty_section(m), tr.clone())).collect();
-    let [ours, theirs] = [newer, night].map(|pairs| {
-        let (mut s, mut t) = ([0; 512], [0; 4_096]);
-        move || {
-            let check =
-                |(m, tr): &(Vec<u8>, Vec<u8>)| cantivorex::check(m, tr, &mut s, &mut t).rounds;
-            black_box(&pairs).iter().map(check).sum::<usize>() as u64
+    let night: Vec<_> =
+        (0..).map(|i| gen::sound(11, i)).filter(|p| p.model[0] == 1).take(200).collect();
+    for version in [2, 3] {
+        let newer = as_version(version, desk.clone());
+        for (case, trace) in [("A", write_trace(0, &[0])), ("B", write_trace(0, &[1, 0]))] {
+            let name = format!("desk model, case {case}, as version {version}");
+            against(&name, &newer, desk, &trace);
         }
-    });
-    race("a night of 200 typical pairs, empty section", ours, theirs);
+        let [ours, theirs] = [version, 1].map(|version| {
+            let model = |p: &Pair| second::parse_model(&p.model).expect("a sound model");
+            let written = |p| write_model(&as_version(version, model(p)));
+            let models: Vec<_> = night.iter().map(written).collect();
+            let (pairs, mut lent) =
+                (models.into_iter().zip(&night).collect::<Vec<_>>(), Lent::new());
+            move || {
+                let rounds =
+                    black_box(&pairs).iter().map(|(m, p)| lent.library(m, &p.trace).rounds);
+                rounds.sum::<usize>() as u64
+            }
+        });
+        race(&format!("a night of 200 typical pairs, as version {version}"), ours, theirs);
+    }
+    let each_step = write_trace(0, &(0..1_024).collect::<Vec<u16>>());
+    against("1,024 steps of a name each", &minting(1), &minting(0), &each_step);
+    check("the same against the second program", &[(write_model(&minting(1)), each_step)]);
     let (all, trace) = (asking(Some((0..4_096).collect())), write_trace(0, &[0; 1_024]));
     against("4,096 persistent, 1,024 steps of 32 in P", &all, &asking(Some(vec![])), &trace);
     against("the same against version 1", &all, &asking(None), &trace);
     check("the same against the second program", &[(write_model(&all), trace)]);
 }
 
-/// A model of version 1 as one of version 2 without persistent facts: four bytes after its two first sections.
-fn with_empty_section(model: &[u8]) -> Vec<u8> {
-    let after = |at: usize| {
-        at + 4 + u32::from_be_bytes(model[at..at + 4].try_into().expect("a length")) as usize
-    };
-    let (head, rest) = model[1..].split_at(after(after(1)) - 1);
-    [&[2], head, &[0; 4], rest].concat()
+/// A model of version 1 as one of another, without persistent facts and without names.
+fn as_version(version: u8, model: Model) -> Model {
+    let [persistent, names] = [2, 3].map(|since| (version >= since).then(Vec::new));
+    Model { persistent, names, ..model }
 }
 
 /// The library with two models and one trace.
 fn against(name: &str, one: &Model, other: &Model, trace: &[u8]) {
     let [ours, theirs] = [one, other].map(|model| {
-        let (model, mut s, mut t) = (write_model(model), [0; 512], [0; 4_096]);
-        move || cantivorex::check(black_box(&model), trace, &mut s, &mut t).rounds as u64
+        let (model, mut lent) = (write_model(model), Lent::new());
+        move || lent.library(black_box(&model), trace).rounds as u64
     });
     race(name, ours, theirs);
 }
@@ -257,6 +277,7 @@ fn desk() -> Model {
         pos: pos.into(),
         neg: neg.into(),
         add: add.into(),
+        names: vec![],
     };
     let clauses = [(2, [0, 1]), (5, [2, 4])].map(|(head, body)| Clause { head, body: body.into() });
     Model {
@@ -322,7 +343,7 @@ fn up(from: u16) -> Vec<u16> {
 
 /// Rules with three lists of 32 over 200 clauses, a nearly full file.
 fn many_rules() -> Model {
-    let rule = Rule { pos: up(0), neg: up(100), add: up(200) };
+    let rule = Rule { pos: up(0), neg: up(100), add: up(200), names: vec![] };
     let clauses = (0..200).map(|k| Clause { head: 1_000 + k, body: vec![k] }).collect();
     Model { rules: vec![rule; 315], ..with(4_096, vec![0], clauses) }
 }
@@ -332,6 +353,13 @@ fn asking(persistent: Option<Vec<u16>>) -> Model {
     let pos: Vec<u16> = (0..32).map(|k| 128 * k + 127).collect();
     let rules = vec![Rule { add: pos.clone(), pos: pos.clone(), ..Rule::default() }];
     Model { persistent, rules, ..with(4_096, pos, vec![]) }
+}
+
+/// 1,024 rules of so many names, the first of the name that is the rule's number.
+fn minting(count: u16) -> Model {
+    let rule = |k: u16| Rule { names: (k..k + count).collect(), ..Rule::default() };
+    let model = Model { rules: (0..1_024).map(rule).collect(), ..with(40, vec![0], vec![]) };
+    as_version(3, model)
 }
 
 /// As many clauses as there may be and as many N facts as then fit.

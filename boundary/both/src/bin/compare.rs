@@ -79,13 +79,14 @@ fn failed(pair: &Pair, index: u64) -> i32 {
 fn compare(pair: &Pair, seed: u64, index: u64) -> Result<Verdict, String> {
     let Pair { model, trace, state_len, .. } = pair;
     let mut rng = Rng::new(seed ^ 0xC0FFEE, index);
-    let (mut state, mut table) = pair.buffers(seed, index);
-    both::check_short(model, trace, &state, &table, rng.below(cantivorex::VALUES))?;
+    let (mut state, mut table, mut names) = pair.buffers(seed, index);
+    let few = rng.below(cantivorex::VALUES);
+    both::check_short(model, trace, &state, &table, &names, few)?;
     let mut start = gen::start_state(seed, index, facts(model));
     // Where the pair is to have too short a state, so is this one.
     start.truncate(if *state_len < 512 { *state_len } else { start.len() });
     let _ = both::close(model, &start, &mut table.clone())?;
-    let verdict = both::check(model, trace, &mut state, &mut table)?;
+    let verdict = both::check(model, trace, &mut state, &mut table, &mut names)?;
     for _ in 0..3 {
         let mark = [0, 0, 1, 1, 2, rng.draw() as u8][rng.below(6)];
         let file = if mark == 1 { trace } else { model };
@@ -111,10 +112,10 @@ fn somewhere(rng: &mut Rng, len: usize) -> usize {
 /// Both verdicts and counts, for a look at a pair that differs.
 fn answers(pair: &Pair, seed: u64, index: u64) {
     let Pair { model, trace, .. } = pair;
-    let (mut state, mut table) = pair.buffers(seed, index);
-    println!("library {:?}", cantivorex::check(model, trace, &mut state, &mut table));
-    let (mut state, mut table) = pair.buffers(seed, index);
-    println!("second  {:?}", second::check(model, trace, &mut state, &mut table));
+    let (mut state, mut table, mut names) = pair.buffers(seed, index);
+    let ours = cantivorex::check(model, trace, &mut state, &mut table, &mut names);
+    let theirs = second::check(model, trace, &mut state, &mut table, &mut names);
+    println!("library {ours:?}\nsecond  {theirs:?}");
     println!("library {:?}", cantivorex::count(model));
     println!("second  {:?}", second::count_api(model));
 }

@@ -5,5 +5,6 @@ pub mod ModelCauses
 pub mod TraceCauses
 pub mod Causes
 pub mod Exact
+pub mod Versions
 pub mod Alike
 pub mod Written

@@ -38,6 +38,11 @@ pub none-persistent : (file : List ℕ) → getD file 0 0 ≡ 1 → modelOf file
 unfolding modelOf words
 none-persistent file first = ap words (section-absent file Persistent (one-lacks file (omega arith)))
 
+-- Nor has it names.
+pub none-names : (file : List ℕ) → getD file 0 0 ≡ 1 → modelOf file .names ≡ []
+unfolding modelOf
+none-names file first = refl
+
 -- every fact of the list is below F
 abbrev pub Below : ℕ → List ℕ → Type 0
 Below F facts = (f : ℕ) → f ∈ facts → f < F

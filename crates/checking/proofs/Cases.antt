@@ -10,8 +10,7 @@ use Rattle.meaning.specs.Rounds.{roundNumber}
 use Rattle.records.specs.Records.{given, _orElse_}
 use Rattle.files.specs.Files.{modelOf, pairFault}
 use Rattle.causes.specs.Written.{ruleBytes, writtenModel, writtenTrace}
-use Rattle.closing.specs.Closing.{noRoom}
-use Rattle.checking.specs.Verdict.{Lent, blamed, refusal, verdictOf}
+use Rattle.checking.specs.Verdict.{Lent, noSpace, blamed, refusal, verdictOf}
 use Rattle.checking.specs.Promises.{Line, shown, verdict}
 use Rattle.checking.specs.Cases.{Case, cases, DeskModel, desk, r0, AllHold}
 use Rattle.checking.specs.declared.Verdict.{Verdict}
@@ -21,7 +20,7 @@ unfoldable roomy : List ℕ → List ℕ → Verdict
 unfolding verdictOf blamed pairFault
 roomy m t = verdictOf m t (Option·map blamed (pairFault m t))
 
-roomy-is : (m t : List ℕ) (l : Lent) → noRoom (l .state) (l .table) ≡ false → verdict m t l ≡ roomy m t
+roomy-is : (m t : List ℕ) (l : Lent) → noSpace l ≡ false → verdict m t l ≡ roomy m t
 unfolding roomy refusal given _orElse_
 roomy-is m t l e = rw e
 

@@ -1,74 +1,110 @@
 -- Laws on a verdict's number by what decides it.
 use Prim.Native.Nat.{ℕ, _≤_}
-use mathlib.Core.Path.{_≡_, refl, sym, ap, _∙_}
-use mathlib.Core.Logic.{_↔_, _⊎_, inl, inr, ⊎-elim}
+use mathlib.Core.Path.{_≡_, refl, sym, ap, _∙_, subst}
+use mathlib.Core.Logic.{_↔_, _⊎_, inl, inr}
 use mathlib.Core.Bool.{true, false, true≢false}
 use mathlib.Core.List.{List}
 use mathlib.Core.Option.{none, some, Option·none-ne-some, Option·some-injective}
 use native.Mathlib.Omega.{arith}
-use Rattle.meaning.specs.Run.{Ending}
+use Rattle.meaning.specs.Run.{Condition, Ending}
+use Rattle.meaning.specs.Run.Condition.{positive, negative, unused}
 use Rattle.meaning.specs.Run.Ending.{attack, blocked, notMet}
 use Rattle.files.specs.Files.{Blamed, pairFault}
 use Rattle.files.specs.Answers.{blamedNumber}
+use Rattle.causes.specs.Causes.{Cause}
+use Rattle.causes.proofs.Causes.{cause-range}
 use Rattle.causes.proofs.Exact.{number-exactly}
-use Rattle.closing.specs.Closing.{noRoom}
-use Rattle.checking.specs.Verdict.{Lent, numberOf}
-use Rattle.checking.specs.Promises.{endNumber, Given}
+use Rattle.checking.specs.Verdict.{Lent, noSpace, stopNumber, numberOf, factIn, outcome}
+use Rattle.checking.specs.Promises.{Refusing, Stopping, endNumber, Given}
 
--- An ending's number is 0, 10 or 11.
-pub end-range : (e : Ending) → (numberOf e ≡ 0) ⊎ ((10 ≤ numberOf e) × (numberOf e ≤ 11))
+-- the numbers of faults and of steps that can't fire, for sums and orders
+pub refusing-is : {k : ℕ} → Refusing k → (2 ≤ k) × (k ≤ 12) × (k ≡ 10 → ⊥) × (k ≡ 11 → ⊥)
+refusing-is (inl r) = (omega arith, omega arith, λ e. omega arith, λ e. omega arith)
+refusing-is (inr r) = (omega arith, omega arith, λ e. omega arith, λ e. omega arith)
+
+pub stopping-is : {k : ℕ} → Stopping k → (10 ≤ k) × (k ≤ 13) × (k ≡ 11 → ⊥) × (k ≡ 12 → ⊥)
+stopping-is (inl r) = (omega arith, omega arith, λ e. omega arith, λ e. omega arith)
+stopping-is (inr r) = (omega arith, omega arith, λ e. omega arith, λ e. omega arith)
+
+pub refused-is : {k : ℕ} → (k ≡ 1) ⊎ Refusing k → (1 ≤ k) × (k ≤ 12) × (k ≡ 10 → ⊥) × (k ≡ 11 → ⊥)
+refused-is (inl e) = (omega arith, omega arith, λ q. omega arith, λ q. omega arith)
+refused-is (inr r) = let (low, high, a, b) = refusing-is r in (omega arith, high, a, b)
+
+-- The number of a cause is that of a fault, and never 8.
+pub cause-refuses : {m t : List ℕ} {mark k : ℕ} {bytes : List ℕ} → Cause m t mark k bytes → Refusing k × (k ≡ 8 → ⊥)
+cause-refuses c = let (low, high, not-eight) = cause-range c in (inl (low, high), not-eight)
+
+-- A step that can't fire is 10 or 13.
+pub stop-range : (c : Condition) → Stopping (stopNumber c)
+unfolding stopNumber
+stop-range (positive f) = inl refl
+stop-range (negative f) = inl refl
+stop-range (unused n) = inr refl
+
+-- 13 is that of a used name alone.
+pub stop-used : (c : Condition) → stopNumber c ≡ 13 → c ≡ unused (factIn c)
+unfolding stopNumber factIn
+stop-used (positive f) e = absurd (omega arith)
+stop-used (negative f) e = absurd (omega arith)
+stop-used (unused n) e = refl
+
+-- An ending's number is 0, 11, or that of such a step.
+pub end-range : (e : Ending) → (numberOf e ≡ 0) ⊎ (numberOf e ≡ 11) ⊎ Stopping (numberOf e)
 unfolding numberOf
 end-range attack = inl refl
-end-range (blocked c) = inr (omega arith)
-end-range (notMet c) = inr (omega arith)
+end-range (blocked c) = inr (inr (stop-range c))
+end-range (notMet c) = inr (inl refl)
 
 -- It is 0 for an attack alone.
 pub end-attack : (e : Ending) → (numberOf e ≡ 0) ↔ (e ≡ attack)
 unfolding numberOf
 end-attack attack = (λ _. refl, λ _. refl)
-end-attack (blocked c) = (λ h. absurd (omega arith), λ h. let z : _≡_ {A = ℕ} 0 1 = cc in absurd (omega arith))
+end-attack (blocked c) = (
+  λ h. absurd (omega (arith, stopping-is (stop-range c))),
+  λ h. let z : _≡_ {A = ℕ} 0 1 = cc in absurd (omega arith),
+)
 end-attack (notMet c) = (λ h. absurd (omega arith), λ h. let z : _≡_ {A = ℕ} 0 1 = cc in absurd (omega arith))
+
+-- The numbers of a run are neither 1 nor those of the files' faults.
+pub ended-apart : {k : ℕ} → (k ≡ 0) ⊎ (k ≡ 11) ⊎ Stopping k → (k ≡ 1 → ⊥) × (Refusing k → ⊥)
+ended-apart (inl z) = (λ e. omega arith, λ r. omega (arith, refusing-is r))
+ended-apart (inr (inl z)) = (λ e. omega arith, λ r. omega (arith, refusing-is r))
+ended-apart (inr (inr s)) =
+    (λ e. omega (arith, stopping-is s), λ r. omega (arith, stopping-is s, refusing-is r))
 
 module _ (m t : List ℕ) (l : Lent) where
   -- Without room 1 is given, and nothing else.
-  pub given-room : noRoom (l .state) (l .table) ≡ true → Given m t l 1
+  pub given-room : noSpace l ≡ true → Given m t l 1
   given-room e = record {
     room = (λ _. e, λ _. refl);
-    fault = λ k low h. (λ q. absurd (omega arith), λ c. absurd (true≢false (sym e ∙ c .0)));
-    ran = λ k z. (
-      λ q. absurd (⊎-elim (λ z. omega arith) (λ z. omega arith) z),
-      λ c. absurd (true≢false (sym e ∙ c .0 .room)),
-    );
+    fault = λ k r. (λ q. absurd (omega (arith, refusing-is r)), λ c. absurd (true≢false (sym e ∙ c .0)));
+    ran = λ k one r. (λ q. absurd (one (sym q)), λ c. absurd (true≢false (sym e ∙ c .0 .room)));
   }
 
-  module _ (room : noRoom (l .state) (l .table) ≡ false) where
+  module _ (room : noSpace l ≡ false) where
     -- With a fault its number is.
-    pub given-fault : (b : Blamed) → pairFault m t ≡ some b → (2 ≤ blamedNumber b) × (blamedNumber b ≤ 9)
-        → Given m t l (blamedNumber b)
+    pub given-fault : (b : Blamed) → pairFault m t ≡ some b → Refusing (blamedNumber b) → Given m t l (blamedNumber b)
     given-fault b e r = record {
-      room = (λ q. absurd (omega arith), λ q. absurd (true≢false (sym q ∙ room)));
-      fault = λ k low h. (
+      room = (λ q. absurd (omega (arith, refusing-is r)), λ q. absurd (true≢false (sym q ∙ room)));
+      fault = λ k _. (
         λ q. (room, number-exactly m t k .0 (b, e, q)),
         λ (_, c).
             let (other, is, number) = number-exactly m t k .1 c in
             ap blamedNumber (Option·some-injective b other (sym e ∙ is)) ∙ number,
       );
-      ran = λ k z. (
-        λ q. absurd (⊎-elim (λ z. omega arith) (λ z. omega arith) z),
+      ran = λ k _ not. (
+        λ q. absurd (not (subst Refusing q r)),
         λ c. absurd (Option·none-ne-some b (sym (c .0 .fine) ∙ e)),
       );
     }
 
     -- With neither the ending's is.
     pub given-run : pairFault m t ≡ none → Given m t l (endNumber m t)
-    given-run e = let r : (endNumber m t ≡ 0) ⊎ ((10 ≤ endNumber m t) × (endNumber m t ≤ 11)) = end-range _ in record {
-      room = (
-        λ q. absurd (⊎-elim (λ z. omega arith) (λ z. omega arith) r),
-        λ q. absurd (true≢false (sym q ∙ room)),
-      );
-      fault = λ k low h. (
-        λ q. absurd (⊎-elim (λ z. omega arith) (λ z. omega arith) r),
+    given-run e = let (not-one, not-fault) = ended-apart (end-range (outcome m t .ending)) in record {
+      room = (λ q. absurd (not-one q), λ q. absurd (true≢false (sym q ∙ room)));
+      fault = λ k h. (
+        λ q. absurd (not-fault (subst Refusing (sym q) h)),
         λ (_, c). let (b, is, _) = number-exactly m t k .1 c in absurd (Option·none-ne-some b (sym e ∙ is)),
       );
-      ran = λ k z. (λ q. (record { room = room; fine = e }, q), λ c. c .1);
+      ran = λ k _ _. (λ q. (record { room = room; fine = e }, q), λ c. c .1);
     }

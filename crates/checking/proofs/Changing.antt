@@ -1,4 +1,4 @@
--- Laws on changing a state fact by fact along a list.
+-- Laws on changing a set number by number along a list.
 use Prim.Native.Nat.{ℕ, _+_, _≤_, _<_}
 use mathlib.Core.Path.{_≡_, refl, sym, ap, _∙_}
 use mathlib.Core.Bool.{Bool, true, false, not, _&&_, _||_}
@@ -9,41 +9,41 @@ use lib.Dec.{eqb}
 use lib.ListN.{length, drop, length-drop}
 use Rattle.sets.specs.Sets.{Facts, any, listed, _∈_}
 use Rattle.sets.proofs.Laws.{by-test}
-use Rattle.facts.specs.Facts.{members}
+use Rattle.facts.specs.Facts.{within}
 use Rattle.records.specs.Words.{word, words}
 use Rattle.records.proofs.Words.{words-at, words-none}
 
--- every number of these bytes is a fact that a state has room for
-abbrev pub Below : List ℕ → Type 0
-Below bytes = (f : ℕ) → f ∈ words bytes → f < 4096
+-- every number of these bytes is below the limit
+abbrev pub Below : ℕ → List ℕ → Type 0
+Below limit bytes = (f : ℕ) → f ∈ words bytes → f < limit
 
--- the number at a place is such a fact, and so are those after it
-pub known-here : (list : List ℕ) (at : ℕ) → at + 2 ≤ length list → Below (drop at list)
-    → (word (drop at list) < 4096) × Below (drop (at + 2) list)
-known-here list at h k =
+-- the number at a place is, and so are those after it
+pub known-here : (limit : ℕ) (list : List ℕ) (at : ℕ) → at + 2 ≤ length list → Below limit (drop at list)
+    → (word (drop at list) < limit) × Below limit (drop (at + 2) list)
+known-here limit list at h k =
     let more : 2 ≤ length (drop at list) = rw length-drop (omega arith) in
     let e : words (drop at list) ≡ word (drop at list) ∷ words (drop (at + 2) list) = words-at list at more in
     (k (word (drop at list)) (rw e (List·Memᴰ·head refl)), λ f i. k f (rw e (List·Memᴰ·tail i)))
 
--- u is what a fact of the list does to the membership of a fact g: adding or removing
-module _ (u : ℕ → Bool → Bool → Bool) (idle : (g : ℕ) (x : Bool) → u g x false ≡ x)
+-- u is what a number of the list does to the membership of a number g in a set of a width: adding or removing
+module _ (w : ℕ) (u : ℕ → Bool → Bool → Bool) (idle : (g : ℕ) (x : Bool) → u g x false ≡ x)
     (twice : (g : ℕ) (x a b : Bool) → u g (u g x a) b ≡ u g x (a || b)) where
-  -- one fact more is done: what the facts from here on do is what those from the next place on do afterwards
-  pub done-one : (list state state' : List ℕ) (at : ℕ) → at + 2 ≤ length list
-      → ((g : ℕ) → members state' g ≡ u g (members state g) (eqb g (word (drop at list)))) → (g : ℕ)
-      → u g (members state' g) (listed (words (drop (at + 2) list)) g)
-      ≡ u g (members state g) (listed (words (drop at list)) g)
+  -- one more is done: what those from here on do is what those from the next place on do afterwards
+  pub done-one : (list set set' : List ℕ) (at : ℕ) → at + 2 ≤ length list
+      → ((g : ℕ) → within w set' g ≡ u g (within w set g) (eqb g (word (drop at list)))) → (g : ℕ)
+      → u g (within w set' g) (listed (words (drop (at + 2) list)) g)
+      ≡ u g (within w set g) (listed (words (drop at list)) g)
   unfolding listed any
-  done-one list state state' at h e g =
+  done-one list set set' at h e g =
       let here = sym (words-at list at (rw length-drop (omega arith))) in
-      rw (e g) (twice g _ _ _ ∙ ap (λ (l : List ℕ). u g (members state g) (listed l g)) here)
+      rw (e g) (twice g _ _ _ ∙ ap (λ (l : List ℕ). u g (within w set g) (listed l g)) here)
 
   -- where fewer than two bytes are left there is nothing to do
-  pub done-all : (list state : List ℕ) (at : ℕ) → length list < at + 2 → (g : ℕ)
-      → u g (members state g) (listed (words (drop at list)) g) ≡ members state g
+  pub done-all : (list set : List ℕ) (at : ℕ) → length list < at + 2 → (g : ℕ)
+      → u g (within w set g) (listed (words (drop at list)) g) ≡ within w set g
   unfolding listed any
-  done-all list state at h g =
-      ap (λ (l : List ℕ). u g (members state g) (listed l g)) (words-none (drop at list) (rw length-drop (omega arith)))
+  done-all list set at h g =
+      ap (λ (l : List ℕ). u g (within w set g) (listed l g)) (words-none (drop at list) (rw length-drop (omega arith)))
       ∙ idle g _
 
 -- adding, then adding

@@ -7,8 +7,7 @@ use mathlib.Core.Option.{none, some}
 use Rattle.files.specs.Files.{pairFault, modelOf}
 use Rattle.files.specs.declared.Part.{Part}
 use Rattle.files.proofs.Answers.{Blames}
-use Rattle.closing.specs.Closing.{noRoom}
-use Rattle.checking.specs.Verdict.{Lent, nothing, refused, blamed, refusal, outcome, ran, verdictOf, Left}
+use Rattle.checking.specs.Verdict.{Lent, noSpace, nothing, refused, blamed, refusal, outcome, ran, verdictOf, Left}
 use Rattle.checking.specs.Verdict.{Buffers, Checked}
 use Rattle.checking.specs.declared.Verdict.{Verdict}
 use Rattle.checking.proofs.Refusals.{refuses-room, refuses-fault, refuses-none}
@@ -20,10 +19,10 @@ module _ (m t : List ℕ) (l : Lent) where
   checked-refused v e = record { verdict = rw e; buffers = rw e refl }
 
   -- without room
-  pub checked-room : noRoom (l .state) (l .table) ≡ true → {v : Verdict} → v ≡ refused 1 nothing → Checked m t l l v
+  pub checked-room : noSpace l ≡ true → {v : Verdict} → v ≡ refused 1 nothing → Checked m t l l v
   checked-room e is = rw is (checked-refused _ (refuses-room m t l e))
 
-  module _ (room : noRoom (l .state) (l .table) ≡ false) where
+  module _ (room : noSpace l ≡ false) where
     -- the pair's fault, as the reader of the pair answers it
     pub checked-blamed : {k : ℕ} {p : Part} → Blames (pairFault m t) k p → {v : Verdict} → v ≡ refused k p
         → Checked m t l l v

@@ -1,6 +1,6 @@
 -- Laws on the end of a run: what the search over the steps leaves and what is asked of the last state make the outcome.
 use Prim.Native.Nat.{ℕ, _+_, _<_}
-use mathlib.Core.Path.{_≡_, refl, sym, ap, _∙_, fun-ext}
+use mathlib.Core.Path.{_≡_, refl, sym, ap, ap₂, _∙_, fun-ext}
 use mathlib.Core.List.{List, [], List·Memᴰ·head, Memᴰ·append-right}
 use mathlib.Core.Logic.{_⊎_, inl, inr}
 use mathlib.Core.Option.{none, some}
@@ -12,9 +12,9 @@ use Rattle.sets.proofs.Size.{size-below}
 use Rattle.meaning.specs.Model.{Model}
 use Rattle.meaning.specs.Rounds.{rounds, closure, roundNumber}
 use Rattle.meaning.specs.Run.{Condition, Reached, Ending, Outcome, conditions, unmet, asked, ending, outcomeOf, run}
-use Rattle.meaning.specs.Run.Condition.{positive, negative}
+use Rattle.meaning.specs.Run.Condition.{positive, negative, unused}
 use Rattle.meaning.specs.Run.Ending.{attack, blocked, notMet}
-use Rattle.meaning.specs.Promises.{FirstUnmet, absent, present}
+use Rattle.meaning.specs.Promises.{FirstUnmet, absent, present, inUse}
 use Rattle.meaning.specs.Promises.EndsSo.{attack as so-attack, blocked as so-blocked, notMet as so-notMet}
 use Rattle.meaning.proofs.Theorems.{run-is}
 use Rattle.meaning.proofs.Runs.{Below, run-below}
@@ -25,9 +25,9 @@ use Rattle.files.specs.Files.{factCount, pairFault, shapeFault, modelOf, traceO
 use Rattle.files.proofs.Laws.{facts-bound, initial-below, rule-below, goal-below}
 use Rattle.files.proofs.Traces.{pair-shape, pair-named, pair-step-known, pair-goal-known}
 use Rattle.files.proofs.Lists.{added-below}
-use Rattle.closing.specs.Closing.{numbered, ClosesUnder}
-use Rattle.checking.specs.Verdict.{Lent, factIn, roundIn, outcome, Left}
-use Rattle.checking.specs.Running.{unmetOf, endingOf, reached, counted, StepsTo, askedIn, KnownIn}
+use Rattle.closing.specs.Closing.{numbered, Filled, ClosesUnder}
+use Rattle.checking.specs.Verdict.{Lent, namesIn, roundIn, outcome, Left}
+use Rattle.checking.specs.Running.{unmetIn, endingOf, reached, counted, StepsTo, askedIn, KnownIn}
 use Rattle.checking.specs.Running.{Numbers, EndsAs}
 use Rattle.checking.specs.declared.conditions.Condition.the-variants as condition
 use Rattle.checking.specs.declared.conditions.Unmet.the-variants as found
@@ -37,13 +37,13 @@ use Rattle.checking.proofs.Stepwise.{closure-shown}
 
 -- ---- what is asked of the last state
 
-module _ (m : Model) (g : ℕ) (X : Facts) where
-  pub asked-met : unmet X (conditions (goalOf m g .P) (goalOf m g .N)) ≡ none → attack ≡ askedIn m g X
+module _ (m : Model) (g : ℕ) (X used : Facts) where
+  pub asked-met : unmet X used (conditions (goalOf m g .P) (goalOf m g .N) []) ≡ none → attack ≡ askedIn m g X used
   unfolding askedIn
   asked-met e = rw (e, askedIn)
 
-  pub asked-unmet : {c : Condition} → unmet X (conditions (goalOf m g .P) (goalOf m g .N)) ≡ some c
-      → notMet c ≡ askedIn m g X
+  pub asked-unmet : {c : Condition} → unmet X used (conditions (goalOf m g .P) (goalOf m g .N) []) ≡ some c
+      → notMet c ≡ askedIn m g X used
   unfolding askedIn
   asked-unmet e = rw (e, askedIn)
 
@@ -61,7 +61,8 @@ module _ (m : Model) (r : Reached) where
   counted-blocked e = rw (e, counted)
 
   -- none
-  ending-asked : (g : ℕ) → r .stop ≡ none → askedIn m g (closure (m .clauses) (r .state .facts)) ≡ ending m g r
+  ending-asked : (g : ℕ) → r .stop ≡ none
+      → askedIn m g (closure (m .clauses) (r .state .facts)) (r .state .names) ≡ ending m g r
   unfolding ending asked askedIn
   ending-asked g e = rw (e, ending)
 
@@ -73,11 +74,14 @@ module _ (m : Model) (r : Reached) where
 
 -- What is left, seen from buffers that the run began with.
 pub left-from : {m : Model} {o : Outcome} {first before after : Lent} → Kept 512 (first .state) (before .state)
+    → Kept 128 (first .names) (before .names)
     → length (before .table) ≡ length (first .table) → drop 4096 (before .table) ≡ drop 4096 (first .table)
     → Left m o before after → Left m o first after
-left-from k n b l = record {
+left-from k u n b l = record {
   facts = l .facts;
   kept = kept-trans k (l .kept);
+  names = l .names;
+  names-kept = kept-trans u (l .names-kept);
   rounds = record { as-long = l .rounds .as-long ∙ n; entries = l .rounds .entries; beyond = l .rounds .beyond ∙ b };
 }
 
@@ -90,6 +94,8 @@ module _ (m t : List ℕ) where
     rounds = s .rounds;
     facts = s .facts;
     kept = kept-same _;
+    names = s .names;
+    names-kept = kept-same _;
     as-long = refl;
     beyond = refl;
     filled = λ c e. record { as-long = refl; entries = s .filled c e .entries; beyond = refl };
@@ -98,41 +104,53 @@ module _ (m t : List ℕ) where
   }
 
   module _ {l : Lent} {r : Steps} (s : StepsTo m t l l r) where
+    -- the last state is left, with a table of its round numbers
+    left : {table : List ℕ} → Filled (modelOf m .clauses) (reached m t .state .facts) (l .table) table
+        → Left (modelOf m) (outcome m t) l (record { state = l .state; table = table; names = l .names })
+    unfolding outcome run outcomeOf reached
+    left filled = record {
+      facts = s .facts;
+      kept = kept-same _;
+      names = s .names;
+      names-kept = kept-same _;
+      rounds = filled;
+    }
+
     -- A blocked step ends the run.
     pub ends-blocked : (c : condition.the-data) → r .stop ≡ found.At c
         → EndsAs m t l l (record { ending = ends.Blocked c; step = r .fired; rounds = r .rounds })
-    unfolding endingOf outcome run outcomeOf unmetOf reached
+    unfolding endingOf outcome run outcomeOf unmetIn reached
     ends-blocked c e =
-        let stop = sym (s .stop) ∙ ap unmetOf e in
+        let stop = sym (s .stop) ∙ ap unmetIn e in
         record {
           within = s .within;
           ending = ending-blocked (modelOf m) (reached m t) (traceOf t .goal) stop;
           step = s .fired;
           rounds = s .rounds ∙ counted-blocked (modelOf m) (reached m t) stop;
-          left = record { facts = s .facts; kept = kept-same _; rounds = s .filled _ stop };
+          left = left (s .filled _ stop);
         }
 
     -- Otherwise what is asked of the last state does.
     pub ends-asked : shapeFault m ≡ none → {table : List ℕ} {n : ℕ} {e : ends.the-data} → r .stop ≡ found.Nowhere
         → ClosesUnder (modelOf m .clauses) (l .state) (l .table) table n
-        → endingOf e ≡ askedIn (modelOf m) (traceOf t .goal) (numbered table)
-        → EndsAs m t l (record { state = l .state; table = table })
+        → endingOf e ≡ askedIn (modelOf m) (traceOf t .goal) (numbered table) (namesIn (l .names))
+        → EndsAs m t l (record { state = l .state; table = table; names = l .names })
         (record { ending = e; step = r .fired; rounds = r .rounds + n })
-    unfolding outcome run outcomeOf unmetOf reached
+    unfolding outcome run outcomeOf unmetIn reached
     ends-asked fine {n = n} q closed asks =
-        let stop = sym (s .stop) ∙ ap unmetOf q in
+        let stop = sym (s .stop) ∙ ap unmetIn q in
         let same : members (l .state) ≡ reached m t .state .facts = fun-ext (s .facts) in
         let shown = closure-shown m fine closed ∙ ap (closure (modelOf m .clauses)) same in
         record {
           within = s .within;
           ending =
-              asks ∙ ap (askedIn (modelOf m) (traceOf t .goal)) shown
+              asks ∙ ap₂ (askedIn (modelOf m) (traceOf t .goal)) shown (fun-ext (s .names))
               ∙ ending-asked (modelOf m) (reached m t) (traceOf t .goal) stop;
           step = s .fired;
           rounds =
               ap (λ k. k + n) (s .rounds ∙ counted-all (modelOf m) (reached m t) stop)
               ∙ ap (λ k. reached m t .earlier + k) (closed .number ∙ ap (rounds (modelOf m .clauses)) same);
-          left = record { facts = s .facts; kept = kept-same _; rounds = rw same at (closed .filled) };
+          left = left (rw same at (closed .filled));
         }
 
   -- All bits of the last state are facts below F, so that counting them counts its facts.
@@ -146,13 +164,14 @@ module _ (m t : List ℕ) where
 
 -- ---- the condition that a run ends with
 
--- The first unmet condition is a fact of P or of N.
-first-known : {X : Facts} {P N : List ℕ} {c : Condition} → FirstUnmet X P N c → (F : ℕ) → ((f : ℕ) → f ∈ P → f < F)
-    → ((f : ℕ) → f ∈ N → f < F) → factIn c < F
-unfolding factIn
-first-known u F p n = elim u [
+-- The first unmet condition is a fact of P or of N, or a name.
+first-known : {X used : Facts} {P N names : List ℕ} {c : Condition} → FirstUnmet X used P N names c
+    → ((f : ℕ) → f ∈ P → f < 4096) → ((f : ℕ) → f ∈ N → f < 4096) → KnownIn c
+unfolding KnownIn
+first-known u p n = elim u [
   | absent met rest e _ _ ↦ p _ (rw e (Memᴰ·append-right met (List·Memᴰ·head refl)))
   | present _ met rest e _ _ ↦ n _ (rw e (Memᴰ·append-right met (List·Memᴰ·head refl)))
+  | inUse _ _ _ _ _ _ ↦ tt
 ]
 
 -- the ending has this condition
@@ -174,27 +193,28 @@ of-notMet e (inr q) = cc
 -- Its fact is one that a table has an entry for.
 pub ending-known : (m t : List ℕ) → pairFault m t ≡ none → (c : Condition) → EndsWith (outcome m t .ending) c
     → KnownIn c
-unfolding outcome KnownIn
+unfolding outcome
 ending-known m t fine c told =
     let M = modelOf m in
     let shape = pair-shape m t fine in
+    let few : (L : List ℕ) → ((f : ℕ) → f ∈ L → f < factCount m) → (f : ℕ) → f ∈ L → f < 4096 =
+    λ L h f i. omega (arith, facts-bound m shape, h f i) in
     elim (run-is M (traceOf t) (pair-named m t fine) .ends) [
       | so-attack e _ _ ↦ absurd (not-attack e told)
       | so-blocked d e h X hc u ↦
           let r =
           rule-below m shape _
-          (getD-in (M .rules) _ (record { P = []; N = []; A = [] }) (pair-step-known m t fine _ h)) in
-          let small : factIn d < factCount m = first-known u (factCount m) (r .0) (r .1) in
-          rw (← of-blocked e told) (omega (arith, facts-bound m shape))
+          (getD-in (M .rules) _ (record { P = []; N = []; A = []; names = [] }) (pair-step-known m t fine _ h)) in
+          rw (← of-blocked e told) (first-known u (few _ (r .0)) (few _ (r .1)))
       | so-notMet d e h X hc u ↦
           let g = goal-below m shape _ (getD-in (M .goals) _ (record { P = []; N = [] }) (pair-goal-known m t fine)) in
-          let small : factIn d < factCount m = first-known u (factCount m) (g .0) (g .1) in
-          rw (← of-notMet e told) (omega (arith, facts-bound m shape))
+          rw (← of-notMet e told) (first-known u (few _ (g .0)) (few _ (g .1)))
     ]
 
 -- Its round in the table is its round.
 pub round-is : (m : Model) (o : Outcome) {table : List ℕ} → Numbers m o table → (c : Condition) → KnownIn c
     → roundIn (λ f. getD table f 0) c ≡ roundIn (roundNumber (m .clauses) (o .state .facts)) c
-unfolding roundIn KnownIn factIn
+unfolding roundIn KnownIn
 round-is m o n (positive f) h = refl
 round-is m o n (negative f) h = n .entries f h
+round-is m o n (unused f) h = refl

@@ -10,5 +10,6 @@ pub mod Parts
 pub mod Naming
 pub mod Unique
 pub mod Theorems
+pub mod Names
 pub mod Cases
 pub mod Versions

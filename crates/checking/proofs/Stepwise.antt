@@ -1,16 +1,17 @@
 -- Laws on the search over the steps: it stands before a step, the buffers hold the state reached there, and where the
 -- steps lead is where the others lead from there.
 use Prim.Native.Nat.{ℕ, _+_, _*_, _≤_, _<_}
-use mathlib.Core.Path.{subst, _≡_, refl, sym, ap, _∙_, fun-ext}
+use mathlib.Core.Path.{_≡_, refl, sym, ap, _∙_, fun-ext}
 use mathlib.Core.Bool.{_||_, _&&_, not}
 use mathlib.Core.List.{List}
 use mathlib.Core.Option.{Option, none, some}
 use native.Mathlib.Omega.{arith}
 use lib.ListN.{length, getD, drop}
 use Rattle.sets.specs.Sets.{Facts, listed}
-use Rattle.meaning.specs.Model.{Model, State, start, ruleOf}
+use Rattle.meaning.specs.Model.{Rule, Model, start, ruleOf}
 use Rattle.meaning.specs.Rounds.{rounds, closure}
-use Rattle.meaning.specs.Run.{Condition, Reached, conditions, unmet, after, reach}
+use Rattle.meaning.specs.Run as meant
+use Rattle.meaning.specs.Run.{Condition, Reached, unmetOf, reach}
 use Rattle.meaning.proofs.Theorems.{rounds-bound, missingHeads-bound}
 use Rattle.meaning.proofs.Runs.{ahead, ahead-none, step-fires, step-stops, steps-end}
 use Rattle.facts.specs.Facts.{members, Kept}
@@ -21,12 +22,9 @@ use Rattle.closing.specs.Closing.{numbered, ClosesUnder}
 use Rattle.closing.proofs.Laws.{filled-numbered}
 use Rattle.closing.proofs.Alone.{bounded}
 use Rattle.checking.specs.Stepping.{Holds}
-use Rattle.checking.specs.Running.{unmetOf, reached, counted, StepsTo}
+use Rattle.checking.specs.Verdict.{Lent, namesIn}
+use Rattle.checking.specs.Running.{unmetIn, reached, stateIn, counted, StepsTo}
 use Rattle.checking.specs.declared.running.Steps.{Steps}
-
--- the state that a buffer holds
-abbrev pub stateIn : List ℕ → State
-stateIn bytes = record { facts = members bytes }
 
 module _ (m : List ℕ) (fine : shapeFault m ≡ none) where
   -- The facts with a number in the table are the closure.
@@ -49,76 +47,81 @@ module _ (m t : List ℕ) where
   ks = traceOf t .steps
 
   -- the search has come to a step, from buffers that it began with
-  pub record On (state₀ table₀ state table : List ℕ) (fired total : ℕ) : Type 0 where
-    pub run : reached m t ≡ ahead fired total (reach M (stateIn state) (drop fired ks))
+  pub record On (before l : Lent) (fired total : ℕ) : Type 0 where
+    pub run : reached m t ≡ ahead fired total (reach M (stateIn l) (drop fired ks))
     pub bound : total ≤ 4096 * fired
     pub within : fired ≤ length ks
-    pub kept : Kept 512 state₀ state
-    pub as-long : length table ≡ length table₀
-    pub beyond : drop 4096 table ≡ drop 4096 table₀
+    pub kept : Kept 512 (before .state) (l .state)
+    pub names-kept : Kept 128 (before .names) (l .names)
+    pub as-long : length (l .table) ≡ length (before .table)
+    pub beyond : drop 4096 (l .table) ≡ drop 4096 (before .table)
 
-  pub on-start : (state table : List ℕ) → ((g : ℕ) → members state g ≡ listed (M .initial) g)
-      → On state table state table 0 0
-  unfolding reached start
-  on-start state table e = record {
-    run = ahead-none _ ∙ ap (λ (X : Facts). ahead 0 0 (reach M (record { facts = X }) ks)) (sym (fun-ext e));
+  pub on-start : (l : Lent) → stateIn l ≡ start M → On l l 0 0
+  unfolding reached
+  on-start l e = record {
+    run = ahead-none _ ∙ ap (λ S. ahead 0 0 (reach M S ks)) (sym e);
     bound = omega arith;
     within = omega arith;
-    kept = kept-same state;
+    kept = kept-same _;
+    names-kept = kept-same _;
     as-long = refl;
     beyond = refl;
   }
 
-  module _ {state₀ table₀ state table : List ℕ} {fired total : ℕ} (on : On state₀ table₀ state table fired total) where
+  module _ {before l : Lent} {fired total : ℕ} (on : On before l fired total) where
+    -- the step's rule
+    abbrev pub ruleAt : Rule
+    ruleAt = ruleOf M (getD ks fired 0)
+
     -- the lists at hand are those of the step's rule
     abbrev pub asked : Option Condition → Type 0
-    asked o =
-        unmet (closure (M .clauses) (members state))
-        (conditions (ruleOf M (getD ks fired 0) .P) (ruleOf M (getD ks fired 0) .N))
-        ≡ o
+    asked o = unmetOf M (stateIn l) ruleAt ≡ o
 
-    module _ {table' : List ℕ} {n : ℕ} (closed : ClosesUnder (M .clauses) state table table' n) where
+    module _ {table : List ℕ} {n : ℕ} (closed : ClosesUnder (M .clauses) (l .state) (l .table) table n) where
       -- The rule fires.
-      pub on-fired : {state' P A K : List ℕ} → fired < length ks → asked none → n ≤ 4096
-          → P ≡ ruleOf M (getD ks fired 0) .P → A ≡ ruleOf M (getD ks fired 0) .A → K ≡ M .persistent
-          → Holds state state' (λ g. members state g && not (listed P g && not (listed K g)) || listed A g)
-          → On state₀ table₀ state' table' (fired + 1) (total + n)
-      unfolding after
-      on-fired {state'} {P} {A} {K} h u few p a k applied = record {
+      pub on-fired : {after : Lent} {P A K made : List ℕ} → after .table ≡ table → fired < length ks → asked none
+          → n ≤ 4096
+          → P ≡ ruleAt .P → A ≡ ruleAt .A → made ≡ ruleAt .names → K ≡ M .persistent
+          → Holds 512 (l .state) (after .state)
+          (λ g. members (l .state) g && not (listed P g && not (listed K g)) || listed A g)
+          → Holds 128 (l .names) (after .names) (λ n. namesIn (l .names) n || listed made n)
+          → On before after (fired + 1) (total + n)
+      unfolding meant.after
+      on-fired {after} {P} {A} {K} {made} e h u few p a q k facts names = record {
         run =
             on .run
-            ∙ step-fires M (stateIn state) ks fired total h u
-            ∙ rw (closed .number, ← p, ← a)
-            (ap (λ (X : Facts). ahead (fired + 1) (total + rounds (M .clauses) (members state))
-            (reach M (record { facts = X }) (drop (fired + 1) ks)))
-            (sym (fun-ext (holds .facts))));
+            ∙ step-fires M (stateIn l) ks fired total h u
+            ∙ rw (closed .number)
+            (ap (λ S. ahead (fired + 1) (total + rounds (M .clauses) (members (l .state)))
+            (reach M S (drop (fired + 1) ks)))
+            (sym next));
         bound = omega (arith, on .bound);
         within = omega arith;
-        kept = kept-trans (on .kept) (holds .kept);
-        as-long = closed .filled .as-long ∙ on .as-long;
-        beyond = closed .filled .beyond ∙ on .beyond;
+        kept = kept-trans (on .kept) (facts .kept);
+        names-kept = kept-trans (on .names-kept) (names .kept);
+        as-long = ap length e ∙ closed .filled .as-long ∙ on .as-long;
+        beyond = ap (drop 4096) e ∙ closed .filled .beyond ∙ on .beyond;
       }
         where
-          effect : (K : List ℕ) → Facts
-          effect K g = members state g && not (listed P g && not (listed K g)) || listed A g
-
-          holds : Holds state state' (effect (M .persistent))
-          holds = subst (λ K. Holds state state' (effect K)) k applied
+          next : stateIn after ≡ meant.after (M .persistent) ruleAt (stateIn l)
+          next = rw (← p, ← a, ← q, ← k) (λ i. record { facts = fun-ext (facts .set) i; names = fun-ext (names .set) i })
 
       -- A condition of it is not met.
       pub on-stop : {c : Condition} {r : Steps} → fired < length ks → asked (some c) → r .fired ≡ fired
           → r .rounds ≡ total + n
-          → unmetOf (r .stop) ≡ some c → n ≤ 4096
-          → StepsTo m t (record { state = state₀; table = table₀ }) (record { state = state; table = table' }) r
+          → unmetIn (r .stop) ≡ some c → n ≤ 4096
+          → StepsTo m t before (record { state = l .state; table = table; names = l .names }) r
       unfolding counted
       on-stop {c} {r} h u f s q few =
-          let is = on .run ∙ step-stops M (stateIn state) ks fired total h u in
+          let is = on .run ∙ step-stops M (stateIn l) ks fired total h u in
           record {
             fired = f ∙ sym (ap (λ (x : Reached). x .fired) is);
             stop = q ∙ sym (ap (λ (x : Reached). x .stop) is);
             rounds = s ∙ rw (is, closed .number);
             facts = λ g. sym (ap (λ (x : Reached). x .state .facts g) is);
             kept = on .kept;
+            names = λ g. sym (ap (λ (x : Reached). x .state .names g) is);
+            names-kept = on .names-kept;
             as-long = closed .filled .as-long ∙ on .as-long;
             beyond = closed .filled .beyond ∙ on .beyond;
             filled = λ _ _. rw is (record {
@@ -131,17 +134,19 @@ module _ (m t : List ℕ) where
           }
 
     -- No step is left.
-    pub on-end : {r : Steps} → length ks ≤ fired → r .fired ≡ fired → r .rounds ≡ total → unmetOf (r .stop) ≡ none
-        → StepsTo m t (record { state = state₀; table = table₀ }) (record { state = state; table = table }) r
+    pub on-end : {r : Steps} → length ks ≤ fired → r .fired ≡ fired → r .rounds ≡ total → unmetIn (r .stop) ≡ none
+        → StepsTo m t before l r
     unfolding counted
     on-end {r} h f s q =
-        let is = on .run ∙ steps-end M (stateIn state) ks fired total h in
+        let is = on .run ∙ steps-end M (stateIn l) ks fired total h in
         record {
           fired = f ∙ sym (ap (λ (x : Reached). x .fired) is);
           stop = q ∙ sym (ap (λ (x : Reached). x .stop) is);
           rounds = s ∙ rw is;
           facts = λ g. sym (ap (λ (x : Reached). x .state .facts g) is);
           kept = on .kept;
+          names = λ g. sym (ap (λ (x : Reached). x .state .names g) is);
+          names-kept = on .names-kept;
           as-long = on .as-long;
           beyond = on .beyond;
           filled = λ c e. absurd (none-some (sym (ap (λ (x : Reached). x .stop) is) ∙ e));

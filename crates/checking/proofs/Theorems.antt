@@ -1,8 +1,8 @@
 -- What demands 1 to 3 promise of a verdict (specs/Promises), proved: each theorem in one place, the work in the files
 -- beside this one.
 use Prim.Native.Nat.{ℕ, zero, suc, _≤_, _<_}
-use mathlib.Core.Path.{_≡_, refl, sym, ap, _∙_}
-use mathlib.Core.Logic.{_↔_, _⊎_, inl, ⊎-elim}
+use mathlib.Core.Path.{_≡_, refl, sym, ap, _∙_, subst}
+use mathlib.Core.Logic.{_↔_, _⊎_, inl, inr, ⊎-elim}
 use mathlib.Core.Bool.{false}
 use mathlib.Core.List.{List, [], _∷_, List·Memᴰ·head, List·Memᴰ·tail, List·Memᴰ·not-nil}
 use mathlib.Core.Option.{Option, none, some}
@@ -14,8 +14,9 @@ use Rattle.sets.proofs.Laws.{fails, below-or-from}
 use Rattle.meaning.specs.Model.{Rule, Model, ruleOf}
 use Rattle.meaning.specs.Rounds.{rounds, closure, missingHeads}
 use Rattle.meaning.specs.Run.{Outcome}
+use Rattle.meaning.specs.Run.Condition.{unused}
 use Rattle.meaning.specs.Published.{TrueAttack}
-use Rattle.meaning.specs.Promises.{IsOutcome, EndsSo, roundsOn}
+use Rattle.meaning.specs.Promises.{FirstUnmet, IsOutcome, EndsSo, roundsOn}
 use Rattle.meaning.specs.Promises.EndsSo.{attack as so-attack, blocked as so-blocked, notMet as so-notMet}
 use Rattle.meaning.proofs.Theorems.{accepted, run-is, closure-inside, roundNumber-is, rounds-bound, missingHeads-bound}
 use Rattle.meaning.proofs.Runs.{Below, run-below}
@@ -27,32 +28,38 @@ use Rattle.files.specs.Answers.{blamedNumber}
 use Rattle.files.proofs.Laws.{initial-below, clauses-bound, clause-below, rule-below}
 use Rattle.files.proofs.Traces.{fine-pair, pair-named}
 use Rattle.causes.specs.Causes.{RightPair}
-use Rattle.causes.proofs.Causes.{pair-cause, cause-range}
+use Rattle.causes.proofs.Causes.{pair-cause}
 use Rattle.causes.proofs.Exact.{right-exactly}
-use Rattle.closing.specs.Closing.{noRoom}
 use Rattle.closing.proofs.Laws.{filled-unique}
-use Rattle.checking.specs.Verdict.{Lent, numberOf, factOf, kindOf, roundOf, refused, blamed, ran, outcome}
+use Rattle.checking.specs.Verdict.{Lent, noSpace, stopNumber, numberOf, factOf, kindOf, roundOf, refused, blamed, ran, outcome}
 use Rattle.checking.specs.Verdict.{refusal, verdictOf, Left, Buffers}
 use Rattle.checking.specs.Verdict.{Checked}
-use Rattle.checking.specs.Promises.{verdict, WellFormed, endNumber, Given, AtFault, Values, Kinds, InFile}
+use Rattle.checking.specs.Promises.{verdict, WellFormed, Refusing, Stopping, endNumber, Given, AtFault, Values, Kinds, InFile}
 use Rattle.checking.specs.Promises.InFile.{inModel}
 use Rattle.checking.specs.declared.Verdict.{Verdict}
 use Rattle.checking.proofs.Refusals.{refuses-none, by-cause}
-use Rattle.checking.proofs.Causes.{end-range, end-attack, given-room, given-fault, given-run}
-use Rattle.checking.proofs.Naming.{in-closure, named}
+use Rattle.checking.proofs.Causes.{end-range, end-attack, ended-apart, given-room, given-fault, given-run}
+use Rattle.checking.proofs.Causes.{refusing-is, refused-is, stopping-is, stop-range, stop-used, cause-refuses}
+use Rattle.checking.proofs.Naming.{in-closure, no-name, no-kind, named}
 use Rattle.checking.proofs.Parts.{fault-at, run-at, fault-in, run-in}
 
 -- ---- one verdict
 
-module _ (m t : List ℕ) (before : Lent) {a b : Lent} (bytes-a : Bytes (a .state)) (bytes-b : Bytes (b .state)) where
-  -- An outcome leaves one state and one table.
+-- the buffers of bytes that are lent hold bytes
+abbrev pub LentBytes : Lent → Type 0
+LentBytes l = Bytes (l .state) × Bytes (l .names)
+
+module _ (m t : List ℕ) (before : Lent) {a b : Lent} (bytes-a : LentBytes a) (bytes-b : LentBytes b) where
+  -- An outcome leaves one state, one table and one set of names.
   pub left-unique : {M : Model} {o : Outcome} → Left M o before a → Left M o before b → a ≡ b
   left-unique x y =
-      let states = determined bytes-a bytes-b (x .kept) (y .kept) (λ g. x .facts g ∙ sym (y .facts g)) in
+      let states = determined (bytes-a .0) (bytes-b .0) (x .kept) (y .kept) (λ g. x .facts g ∙ sym (y .facts g)) in
       let tables = filled-unique (x .rounds) (y .rounds) in
-      λ i. record { state = states i; table = tables i }
+      let names =
+      determined (bytes-a .1) (bytes-b .1) (x .names-kept) (y .names-kept) (λ n. x .names n ∙ sym (y .names n)) in
+      λ i. record { state = states i; table = tables i; names = names i }
 
-  -- Whatever the refusal, it leaves one state and one table.
+  -- Whatever the refusal, it leaves them.
   pub buffers-unique : (r : Option Verdict) → Buffers m t r before a → Buffers m t r before b → a ≡ b
   unfolding Buffers
   buffers-unique none x y = left-unique x y
@@ -119,7 +126,8 @@ module _ {m t : List ℕ} {l : Lent} (w : WellFormed m t l) where
       (λ f i. absurd (List·Memᴰ·not-nil i)) (λ r i. rule-below m shape r i .2))
 
   module _ {after : Lent} {v : Verdict} (checked : Checked m t l after v) where
-    left : Left (modelOf m) (outcome m t) l after
+    -- The buffers are those of the outcome.
+    pub left : Left (modelOf m) (outcome m t) l after
     unfolding Buffers
     left = rw (refuses-none m t l w) at (checked .buffers)
 
@@ -142,15 +150,15 @@ module _ {m t : List ℕ} {l : Lent} (w : WellFormed m t l) where
 
 -- ---- every number has its cause
 
--- The number of a pair's fault is one of 2 to 9, and never 8.
+-- The number of a pair's fault is one of 2 to 9 or 12, and never 8.
 pub fault-range : (m t : List ℕ) (b : Blamed) → pairFault m t ≡ some b
-    → (2 ≤ blamedNumber b) × (blamedNumber b ≤ 9) × (blamedNumber b ≡ 8 → ⊥)
+    → Refusing (blamedNumber b) × (blamedNumber b ≡ 8 → ⊥)
 unfolding blamedNumber
-fault-range m t (model f) e = cause-range (pair-cause m t (model f) e .cause)
-fault-range m t (trace f) e = cause-range (pair-cause m t (trace f) e .cause)
+fault-range m t (model f) e = cause-refuses (pair-cause m t (model f) e .cause)
+fault-range m t (trace f) e = cause-refuses (pair-cause m t (trace f) e .cause)
 
--- The number of a run's outcome is 0, 10 or 11.
-pub outcome-range : (m t : List ℕ) → (endNumber m t ≡ 0) ⊎ ((10 ≤ endNumber m t) × (endNumber m t ≤ 11))
+-- The number of a run's outcome is 0, 11, 10 or 13.
+pub outcome-range : (m t : List ℕ) → (endNumber m t ≡ 0) ⊎ (endNumber m t ≡ 11) ⊎ Stopping (endNumber m t)
 outcome-range m t = end-range (outcome m t .ending)
 
 module _ (m t : List ℕ) (l : Lent) where
@@ -159,11 +167,15 @@ module _ (m t : List ℕ) (l : Lent) where
   unfolding refused blamed ran
   numbers =
       by-cause m t l (λ v. Given m t l (v .number)) (given-room m t l)
-      (λ room b e. let (low, high, _) = fault-range m t b e in given-fault m t l room b e (low, high))
+      (λ room b e. given-fault m t l room b e (fault-range m t b e .0))
       (λ w. given-run m t l (w .room) (w .fine))
 
+  -- Only a well-formed pair is run.
+  pub ran-formed : let k = verdict m t l .number in (k ≡ 0) ⊎ (k ≡ 11) ⊎ Stopping k → WellFormed m t l
+  ran-formed e = let (not-one, not-fault) = ended-apart e in numbers .ran _ not-one not-fault .0 refl .0
+
   -- A pair is well-formed, with enough room, exactly if nothing that is judged before the first step is wrong.
-  pub well-formed : WellFormed m t l ↔ ((noRoom (l .state) (l .table) ≡ false) × RightPair m t)
+  pub well-formed : WellFormed m t l ↔ ((noSpace l ≡ false) × RightPair m t)
   well-formed =
       let exactly = right-exactly m t in
       (λ w. (w .room, exactly .0 (w .fine)), λ (room, right). record { room = room; fine = exactly .1 right })
@@ -171,13 +183,13 @@ module _ (m t : List ℕ) (l : Lent) where
   -- Number 8 is never given.
   pub never-eight : verdict m t l .number ≡ 8 → ⊥
   never-eight e =
-      let (_, (_, _, cause)) = numbers .fault 8 (omega arith) (omega arith) .0 e in
-      cause-range cause .2 refl
+      let (_, (_, _, cause)) = numbers .fault 8 (inl (omega arith)) .0 e in
+      cause-refuses cause .1 refl
 
   -- Whatever the files and buffers, the verdict is 0 exactly if the pair is well-formed and the trace a true attack.
   pub accepted-exactly : (verdict m t l .number ≡ 0) ↔ (WellFormed m t l × TrueAttack (modelOf m) (traceOf t))
   accepted-exactly =
-      (λ e. let w = numbers .ran 0 (inl refl) .0 e .0 in (w, attack-exactly w .0 e), λ (w, a). attack-exactly w .1 a)
+      (λ e. let w = ran-formed (inl e) in (w, attack-exactly w .0 e), λ (w, a). attack-exactly w .1 a)
 
   -- ---- the bytes at fault
 
@@ -187,8 +199,8 @@ module _ (m t : List ℕ) (l : Lent) where
   at-fault =
       by-cause m t l (AtFault m t) (λ _. record {
         empty = λ _. refl;
-        cause = λ low _. absurd (omega arith);
-        entry = λ e. absurd (omega arith);
+        cause = λ h. absurd (omega (arith, refusing-is h));
+        entry = λ h. absurd (omega (arith, stopping-is h));
         goal = λ e. absurd (omega arith);
       })
       (λ _ b e. fault-at m t b e) (λ w. run-at m t (w .fine) (first-not-met w .0 .ends))
@@ -204,72 +216,94 @@ module _ (m t : List ℕ) (l : Lent) where
 
   -- They are what document 01 says for the number.
   pub values : Values t (verdict m t l)
-  unfolding refused blamed ran
+  unfolding refused blamed ran numberOf
   values =
-      by-cause m t l (Values t) (λ _. none-of _ (omega arith) (omega arith) refl refl refl refl)
-      (λ _ b e. let (low, high, _) = fault-range m t b e in none-of _ (omega arith) high refl refl refl refl)
-      (λ w. of-run (first-not-met w .0 .ends))
+      by-cause m t l (Values t) (λ _. none-of _ (inl refl) refl refl refl refl)
+      (λ _ b e. none-of _ (inr (fault-range m t b e .0)) refl refl refl refl) (λ w. of-run (first-not-met w .0 .ends))
     where
-      none-of : (v : Verdict) → 1 ≤ v .number → v .number ≤ 9 → v .step ≡ 0 → v .fact ≡ 65535 → v .rounds ≡ 0
-          → v .held ≡ 0 → Values t v
-      none-of v low high s f r h = record {
-        refused = λ _ _. (s, r, h);
-        ended = λ e. absurd (⊎-elim (λ q. omega arith) (λ q. omega arith) e);
-        blocked = λ e. absurd (omega arith);
-        no-fact = λ _. f;
+      none-of : (v : Verdict) → (v .number ≡ 1) ⊎ Refusing (v .number) → v .step ≡ 0 → v .fact ≡ 65535
+          → v .rounds ≡ 0 → v .held ≡ 0 → Values t v
+      none-of v k s f r h = record {
+        refused = λ _. (s, r, h);
+        ended = λ e. absurd (⊎-elim (λ q. omega (arith, refused-is k)) (λ q. omega (arith, refused-is k)) e);
+        blocked = λ e. absurd (omega (arith, refused-is k, stopping-is e));
+        no-fact = λ _ _. f;
       }
 
       of-run : EndsSo (modelOf m) (traceOf t .goal) (traceOf t .steps) (outcome m t) → Values t (ran m t (outcome m t))
       of-run (so-attack e s _) =
           let number : numberOf (outcome m t .ending) ≡ 0 = ap numberOf e in
           record {
-            refused = λ low _. absurd (omega arith);
+            refused = λ q. absurd (omega (arith, refused-is q));
             ended = λ _. s;
-            blocked = λ q. absurd (omega arith);
-            no-fact = λ _. ap factOf e;
+            blocked = λ q. absurd (omega (arith, stopping-is q));
+            no-fact = λ _ _. ap factOf e;
           }
       of-run (so-blocked c e s X hc u) =
-          let number : numberOf (outcome m t .ending) ≡ 10 = ap numberOf e in
+          let number = subst Stopping (sym (ap numberOf e)) (stop-range c) in
           record {
-            refused = λ _ high. absurd (omega arith);
-            ended = λ q. absurd (⊎-elim (λ q. omega arith) (λ q. omega arith) q);
+            refused = λ q. absurd (omega (arith, stopping-is number, refused-is q));
+            ended = λ q.
+                absurd (⊎-elim (λ q. omega (arith, stopping-is number)) (λ q. omega (arith, stopping-is number)) q);
             blocked = λ _. s;
-            no-fact = λ low. absurd (omega arith);
+            no-fact = λ not _. absurd (not number);
           }
       of-run (so-notMet c e s X hc u) =
           let number : numberOf (outcome m t .ending) ≡ 11 = ap numberOf e in
           record {
-            refused = λ _ high. absurd (omega arith);
+            refused = λ q. absurd (omega (arith, refused-is q));
             ended = λ _. s;
-            blocked = λ q. absurd (omega arith);
-            no-fact = λ low. absurd (omega arith);
+            blocked = λ q. absurd (omega (arith, stopping-is q));
+            no-fact = λ _ not. absurd (not number);
           }
 
   -- ---- the unmet condition
 
   -- Kind and round are those of the first unmet condition of the blocked rule or of the attack state, and no other
-  -- number has any.
+  -- number has any; of a used name it is the first.
   pub kinds : Kinds m t (verdict m t l)
-  unfolding refused blamed ran
+  unfolding refused blamed ran numberOf stopNumber factOf kindOf roundOf
   kinds =
-      by-cause m t l (Kinds m t) (λ _. unkind _ (omega arith) refl refl)
-      (λ _ b e. let (_, high, _) = fault-range m t b e in unkind _ (omega arith) refl refl)
-      (λ w. of-run w (first-not-met w .0 .ends))
+      by-cause m t l (Kinds m t) (λ _. unkind _ (inl refl) refl refl)
+      (λ _ b e. unkind _ (inr (fault-range m t b e .0)) refl refl) (λ w. of-run (first-not-met w .0 .ends))
     where
-      unkind : (v : Verdict) → v .number < 10 → v .kind ≡ 0 → v .round ≡ 65535 → Kinds m t v
-      unkind v low k r =
-          record { no-kind = λ _. (k, r); of-rule = λ e. absurd (omega arith); of-goal = λ e. absurd (omega arith) }
+      unkind : (v : Verdict) → (v .number ≡ 1) ⊎ Refusing (v .number) → v .kind ≡ 0 → v .round ≡ 65535 → Kinds m t v
+      unkind v n k r = record {
+        no-kind = λ _ _. (k, r);
+        of-rule = λ e. absurd (omega (arith, refused-is n));
+        of-goal = λ e. absurd (omega (arith, refused-is n));
+        of-name = λ e. absurd (omega (arith, refused-is n));
+      }
 
-      of-run : WellFormed m t l → EndsSo (modelOf m) (traceOf t .goal) (traceOf t .steps) (outcome m t)
-          → Kinds m t (ran m t (outcome m t))
-      of-run w (so-attack e _ _) = rw e (unkind _ (omega arith) refl refl)
-      of-run w (so-blocked c e h X hc u) = record {
-        no-kind = λ low. absurd (omega (arith, ap numberOf e));
-        of-rule = λ _. named _ _ c (in-closure hc u) (ap factOf e) (ap kindOf e) (ap (roundOf _) e);
-        of-goal = λ q. absurd (omega (arith, ap numberOf e));
-      }
-      of-run w (so-notMet c e h X hc u) = record {
-        no-kind = λ low. absurd (omega (arith, ap numberOf e));
-        of-rule = λ q. absurd (omega (arith, ap numberOf e));
-        of-goal = λ _. named _ _ c (in-closure hc u) (ap factOf e) (ap kindOf e) (ap (roundOf _) e);
-      }
+      of-run : EndsSo (modelOf m) (traceOf t .goal) (traceOf t .steps) (outcome m t) → Kinds m t (ran m t (outcome m t))
+      of-run (so-attack e _ _) =
+          let number : numberOf (outcome m t .ending) ≡ 0 = ap numberOf e in
+          record {
+            no-kind = λ _ _. (ap kindOf e, ap (roundOf _) e);
+            of-rule = λ q. absurd (omega arith);
+            of-goal = λ q. absurd (omega arith);
+            of-name = λ q. absurd (omega arith);
+          }
+      of-run (so-blocked c e h X hc u) =
+          let number : numberOf (outcome m t .ending) ≡ stopNumber c = ap numberOf e in
+          let not-used : stopNumber c ≡ 10 → (n : ℕ) → c ≡ unused n → ⊥ = λ q n is. omega (arith, ap stopNumber is) in
+          record {
+            no-kind = λ not _.
+                let (k, r) = no-kind _ c (λ q. not (number ∙ q)) in
+                (ap kindOf e ∙ k, ap (roundOf _) e ∙ r);
+            of-rule = λ q.
+                named _ _ c (not-used (sym number ∙ q)) (in-closure hc u) (ap factOf e) (ap kindOf e)
+                (ap (roundOf _) e);
+            of-goal = λ q. absurd (omega (arith, stopping-is (stop-range c)));
+            of-name = λ q. rw (ap factOf e, ← stop-used c (sym number ∙ q)) (in-closure hc u);
+          }
+      of-run (so-notMet c e h X hc u) =
+          let number : numberOf (outcome m t .ending) ≡ 11 = ap numberOf e in
+          record {
+            no-kind = λ _ not. absurd (not number);
+            of-rule = λ q. absurd (omega arith);
+            of-goal = λ _.
+                named _ _ c (λ n is. no-name (subst (FirstUnmet X _ _ _ []) is u)) (in-closure hc u) (ap factOf e)
+                (ap kindOf e) (ap (roundOf _) e);
+            of-name = λ q. absurd (omega arith);
+          }

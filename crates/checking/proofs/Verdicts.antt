@@ -8,7 +8,7 @@ use Rattle.meaning.specs.Run.Ending.{attack, blocked, notMet}
 use Rattle.files.specs.Files.{modelOf, traceOf}
 use Rattle.files.specs.Answers.{entryPart, goalPart}
 use Rattle.files.specs.declared.Part.{Part}
-use Rattle.checking.specs.Verdict.{nothing, factIn, factOf, kindIn, kindOf, roundIn, roundOf, numberOf}
+use Rattle.checking.specs.Verdict.{nothing, stopNumber, factIn, factOf, kindIn, kindOf, roundIn, roundOf, numberOf}
 use Rattle.checking.specs.Verdict.{partFor, ran}
 use Rattle.checking.specs.Running.{conditionOf, endingOf, Shows}
 use Rattle.checking.specs.declared.Verdict.{Verdict}
@@ -48,10 +48,10 @@ module _ (m t : List ℕ) (o : Outcome) {steps : ℕ} (e : Ended) {held : ℕ} (
   module _ (c : condition.the-data) {fact kind round : ℕ} {part : Part} (f : fact ≡ factIn (conditionOf c))
       (k : kind ≡ kindIn (conditionOf c))
       (r : round ≡ roundIn numbers (conditionOf c)) where
-    pub ran-blocked : e .ending ≡ ends.Blocked c → part ≡ entryPart t (1 + e .step)
-        → made 10 fact kind round part ≡ ran m t o
+    pub ran-blocked : {number : ℕ} → number ≡ stopNumber (conditionOf c) → e .ending ≡ ends.Blocked c
+        → part ≡ entryPart t (1 + e .step) → made number fact kind round part ≡ ran m t o
     unfolding endingOf numberOf factOf kindOf roundOf partFor
-    ran-blocked told p = rw (f, k, r, p) (made-is (blocked (conditionOf c)) (ap endingOf told))
+    ran-blocked n told p = rw (n, f, k, r, p) (made-is (blocked (conditionOf c)) (ap endingOf told))
 
     pub ran-notMet : e .ending ≡ ends.NotMet c → part ≡ goalPart m (traceOf t .goal)
         → made 11 fact kind round part ≡ ran m t o

@@ -7,15 +7,14 @@ use mathlib.Core.Option.{Option, none, some}
 use Rattle.meaning.specs.Model.{Model}
 use Rattle.meaning.specs.Rounds.{roundNumber}
 use Rattle.meaning.specs.Run.{Outcome, run}
-use Rattle.facts.proofs.Laws.{Bytes}
 use Rattle.files.specs.Files.{modelOf, traceOf, modelFault}
-use Rattle.files.proofs.Laws.{none-persistent}
+use Rattle.files.proofs.Laws.{none-persistent, none-names}
 use Rattle.causes.proofs.Alike.{same-fault}
 use Rattle.checking.specs.Verdict.{Lent, numberOf, factOf, kindOf, roundOf, outcome, ran, refusal}
 use Rattle.checking.specs.Verdict.{verdictOf, Left, Buffers, Checked}
 use Rattle.checking.specs.Promises.{Line, shown, verdict, SameLists}
 use Rattle.checking.specs.declared.Verdict.{Verdict}
-use Rattle.checking.proofs.Theorems.{left-unique}
+use Rattle.checking.proofs.Theorems.{LentBytes, left-unique}
 
 -- They are one model.
 same-model : (one two : List ℕ) → SameLists one two → modelOf one ≡ modelOf two
@@ -23,6 +22,7 @@ same-model one two same = λ i. record {
   F = same .F i;
   initial = same .initial i;
   persistent = (none-persistent one (same .version) ∙ sym (same .none-persistent)) i;
+  names = (none-names one (same .version) ∙ sym (same .none-names)) i;
   clauses = same .clauses i;
   rules = same .rules i;
   goals = same .goals i;
@@ -60,7 +60,7 @@ module _ {one two : List ℕ} (t : List ℕ) (fine-one : modelFault one ≡ none
       go (some v) = refl
 
   -- So is every byte and entry that a check leaves.
-  pub nothing-left-changed : {l a b : Lent} → Bytes (a .state) → Bytes (b .state) → {v w : Verdict}
+  pub nothing-left-changed : {l a b : Lent} → LentBytes a → LentBytes b → {v w : Verdict}
       → Checked one t l a v → Checked two t l b w → a ≡ b
   unfolding Buffers
   nothing-left-changed {l} {a} {b} bytes-a bytes-b x y =

@@ -10,8 +10,7 @@ use Rattle.meaning.specs.Model.{Clause, Rule, Goal, Model, Trace}
 use Rattle.meaning.specs.Rounds.{roundNumber}
 use Rattle.files.specs.Files.{modelOf}
 use Rattle.causes.specs.Written.{ruleBytes, writtenModel, writtenTrace}
-use Rattle.closing.specs.Closing.{noRoom}
-use Rattle.checking.specs.Verdict.{Lent}
+use Rattle.checking.specs.Verdict.{Lent, noSpace}
 use Rattle.checking.specs.Promises.{Line, shown, verdict}
 
 infix 80 _from_
@@ -21,7 +20,7 @@ abbrev pub _from_ : ℕ → List ℕ → Clause
 h from body = record { head = h; body = body }
 
 abbrev pub rule : List ℕ → List ℕ → List ℕ → Rule
-rule P N A = record { P = P; N = N; A = A }
+rule P N A = record { P = P; N = N; A = A; names = [] }
 
 abbrev pub goal : List ℕ → List ℕ → Goal
 goal P N = record { P = P; N = N }
@@ -41,6 +40,7 @@ desk = record {
   F = 6;
   initial = 0 ∷ 1 ∷ 4 ∷ [];
   persistent = [];
+  names = [];
   clauses = 2 from (0 ∷ 1 ∷ []) ∷ 5 from (2 ∷ 4 ∷ []) ∷ [];
   rules = r0 ∷ rule (0 ∷ []) [] [] ∷ rule (1 ∷ []) [] (1 ∷ []) ∷ [];
   goals = goal (3 ∷ 5 ∷ []) [] ∷ goal (4 ∷ []) (0 ∷ []) ∷ [];
@@ -48,8 +48,15 @@ desk = record {
 
 -- "Other models have one attack state, whose P is the fact called goal below and whose N is empty; no rules"
 abbrev pub other : ℕ → List ℕ → List Clause → List ℕ → Model
-other F initial clauses P =
-    record { F = F; initial = initial; persistent = []; clauses = clauses; rules = []; goals = goal P [] ∷ [] }
+other F initial clauses P = record {
+  F = F;
+  initial = initial;
+  persistent = [];
+  names = [];
+  clauses = clauses;
+  rules = [];
+  goals = goal P [] ∷ [];
+}
 
 -- what the document says of the desk model: "The file has 101 bytes; r0 is ..", "Round numbers at the start: 0, 0, 1,
 -- none, 0, 2.", "Trace B is .."; and the file is read as that model
@@ -99,6 +106,7 @@ translated = record {
   F = 2;
   initial = 0 ∷ [];
   persistent = [];
+  names = [];
   clauses = 1 from (0 ∷ []) ∷ [];
   rules = rule (1 ∷ []) [] (1 ∷ []) ∷ rule (0 ∷ []) [] [] ∷ [];
   goals = goal (1 ∷ []) [] ∷ [];
@@ -109,6 +117,7 @@ published = record {
   F = 2;
   initial = 0 ∷ [];
   persistent = 1 ∷ [];
+  names = [];
   clauses = 1 from (0 ∷ []) ∷ [];
   rules = rule (1 ∷ []) [] [] ∷ rule (0 ∷ []) [] [] ∷ [];
   goals = goal (1 ∷ []) [] ∷ [];
@@ -120,6 +129,7 @@ stored = record {
   F = 2;
   initial = 0 ∷ 1 ∷ [];
   persistent = 1 ∷ [];
+  names = [];
   clauses = [];
   rules = rule (0 ∷ 1 ∷ []) [] [] ∷ [];
   goals = goal (1 ∷ []) (0 ∷ []) ∷ [];
@@ -156,5 +166,5 @@ cases =
 
 -- the claim: with enough room, the verdict on every case's files shows the line expected
 abbrev pub AllHold : Type 0
-AllHold = (c : Case) → c ∈ cases → (l : Lent) → noRoom (l .state) (l .table) ≡ false
+AllHold = (c : Case) → c ∈ cases → (l : Lent) → noSpace l ≡ false
     → shown (verdict (writtenModel (c .version) (c .model)) (writtenTrace (c .trace)) l) ≡ c .expected

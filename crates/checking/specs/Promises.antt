@@ -6,12 +6,13 @@ use mathlib.Core.Logic.{_↔_, _⊎_}
 use mathlib.Core.Bool.{true, false}
 use mathlib.Core.List.{List, []}
 use mathlib.Core.Option.{none}
-use lib.ListN.{length, getD}
-use Rattle.sets.specs.Sets.{Facts}
-use Rattle.meaning.specs.Model.{ruleOf, goalOf}
+use lib.ListN.{length, getD, take}
+use Rattle.sets.specs.Sets.{Facts, _∈_}
+use Rattle.meaning.specs.Model.{Model, State, ruleOf, goalOf, start}
 use Rattle.meaning.specs.Rounds.{closure, roundNumber}
-use Rattle.meaning.specs.Run.Condition.{positive, negative}
-use Rattle.meaning.specs.Promises.{FirstUnmet}
+use Rattle.meaning.specs.Run.Condition.{positive, negative, unused}
+use Rattle.meaning.specs.Published.{Path}
+use Rattle.meaning.specs.Promises.{FirstUnmet, FirstUnmetOf, Makes}
 use Rattle.records.specs.Words.{word}
 use Rattle.records.specs.Records.{records}
 use Rattle.sections.specs.declared.Role.the-variants.{Goals}
@@ -19,8 +20,7 @@ use Rattle.files.specs.Files.{sectionOf, modelOf, traceOf, pairFault}
 use Rattle.files.specs.Answers.{partOf}
 use Rattle.causes.specs.Causes.{Cause}
 use Rattle.files.specs.declared.Part.{Part}
-use Rattle.closing.specs.Closing.{noRoom}
-use Rattle.checking.specs.Verdict.{Lent, outcome, numberOf, refusal, verdictOf}
+use Rattle.checking.specs.Verdict.{Lent, noSpace, outcome, numberOf, refusal, verdictOf}
 use Rattle.checking.specs.declared.Verdict.{Verdict}
 
 -- the verdict on a pair, for what is lent
@@ -29,7 +29,7 @@ verdict m t l = verdictOf m t (refusal m t l)
 
 -- "A model or pair is well-formed when nothing judged before the first step refuses it", with enough room
 pub record WellFormed (m t : List ℕ) (l : Lent) : Type 0 where
-  pub room : noRoom (l .state) (l .table) ≡ false
+  pub room : noSpace l ≡ false
   pub fine : pairFault m t ≡ none
 
 -- what the program prints of a verdict: number, step, fact, rounds, held, kind, round
@@ -59,26 +59,35 @@ shown v = record {
 abbrev pub CauseOf : List ℕ → List ℕ → ℕ → Type 0
 CauseOf m t k = (mark : ℕ) × (bytes : List ℕ) × Cause m t mark k bytes
 
+-- the numbers of faults of the files, 2 to 9 and those that a later request "adds for the model": 12 BADNAME (document
+-- 02, wish 9)
+abbrev pub Refusing : ℕ → Type 0
+Refusing k = ((2 ≤ k) × (k ≤ 9)) ⊎ (k ≡ 12)
+
+-- the numbers of a step that can't fire: 10, and 13, which is "all else as for BLOCKED"
+abbrev pub Stopping : ℕ → Type 0
+Stopping k = (k ≡ 10) ⊎ (k ≡ 13)
+
 -- the number of a run's ending
 abbrev pub endNumber : List ℕ → List ℕ → ℕ
 endNumber m t = numberOf (outcome m t .ending)
 
--- "None is given in any other case.": each number exactly when its cause is there, 1 for no room, 2 to 9 for what
--- document 01's table and order say of the two files, any other for the outcome of a well-formed pair
+-- "None is given in any other case.": each number exactly when its cause is there, 1 for no room, 2 to 9 and 12 for
+-- what document 01's table and order say of the two files, any other for the outcome of a well-formed pair
 pub record Given (m t : List ℕ) (l : Lent) (number : ℕ) : Type 0 where
-  pub room : (number ≡ 1) ↔ (noRoom (l .state) (l .table) ≡ true)
-  pub fault : (k : ℕ) → 2 ≤ k → k ≤ 9 → (number ≡ k) ↔ ((noRoom (l .state) (l .table) ≡ false) × CauseOf m t k)
-  pub ran : (k : ℕ) → (k ≡ 0) ⊎ (10 ≤ k) → (number ≡ k) ↔ (WellFormed m t l × (endNumber m t ≡ k))
+  pub room : (number ≡ 1) ↔ (noSpace l ≡ true)
+  pub fault : (k : ℕ) → Refusing k → (number ≡ k) ↔ ((noSpace l ≡ false) × CauseOf m t k)
+  pub ran : (k : ℕ) → (k ≡ 1 → ⊥) → (Refusing k → ⊥) → (number ≡ k) ↔ (WellFormed m t l × (endNumber m t ≡ k))
 
 -- ---- the bytes at fault
 
--- "For 0 and 1: the empty part at the model's start."; for 2 to 9 the number's cause in the words of 01's table, with
--- those bytes (`Cause`); for 10 "the two bytes in the trace", which are the blocked step's rule number; for 11 "the
--- attack state's record"
+-- "For 0 and 1: the empty part at the model's start."; for 2 to 9 and 12 the number's cause in the words of 01's table,
+-- with those bytes (`Cause`); for 10 and 13 "the two bytes in the trace", which are the blocked step's rule number; for
+-- 11 "the attack state's record"
 pub record AtFault (m t : List ℕ) (v : Verdict) : Type 0 where
   pub empty : v .number ≤ 1 → v .part ≡ record { mark = 0; start = 0; size = 0 }
-  pub cause : 2 ≤ v .number → v .number ≤ 9 → Cause m t (v .part .mark) (v .number) (partOf m t (v .part))
-  pub entry : v .number ≡ 10 → (v .part .mark ≡ 1) × (length (partOf m t (v .part)) ≡ 2)
+  pub cause : Refusing (v .number) → Cause m t (v .part .mark) (v .number) (partOf m t (v .part))
+  pub entry : Stopping (v .number) → (v .part .mark ≡ 1) × (length (partOf m t (v .part)) ≡ 2)
       × (word (partOf m t (v .part)) ≡ getD (traceOf t .steps) (v .step) 0)
   pub goal : v .number ≡ 11 → (v .part .mark ≡ 0)
       × (partOf m t (v .part) ≡ getD (records (sectionOf m Goals)) (traceOf t .goal) [])
@@ -86,39 +95,63 @@ pub record AtFault (m t : List ℕ) (v : Verdict) : Type 0 where
 -- ---- step, fact, rounds, held
 
 -- "step: for 10 the number of the blocked step from 0; for 0 and 11 the count of steps; otherwise 0", "fact: ..
--- otherwise 65,535", "rounds .. 0 for 1 to 9", "held .. 0 for 1 to 9"
+-- otherwise 65,535", "rounds .. 0 for 1 to 9", "held .. 0 for 1 to 9"; 12 "is as 6 in all else", 13 as 10
 pub record Values (t : List ℕ) (v : Verdict) : Type 0 where
-  pub refused : 1 ≤ v .number → v .number ≤ 9 → (v .step ≡ 0) × (v .rounds ≡ 0) × (v .held ≡ 0)
+  pub refused : (v .number ≡ 1) ⊎ Refusing (v .number) → (v .step ≡ 0) × (v .rounds ≡ 0) × (v .held ≡ 0)
   pub ended : (v .number ≡ 0) ⊎ (v .number ≡ 11) → v .step ≡ length (traceOf t .steps)
-  pub blocked : v .number ≡ 10 → v .step < length (traceOf t .steps)
-  pub no-fact : v .number < 10 → v .fact ≡ 65535
+  pub blocked : Stopping (v .number) → v .step < length (traceOf t .steps)
+  pub no-fact : (Stopping (v .number) → ⊥) → (v .number ≡ 11 → ⊥) → v .fact ≡ 65535
 
 -- ---- the unmet condition (document 02, wish 7)
 
 -- "whether the unmet one was positive or negative and, if negative, the round in which its fact arose": positive
 -- exactly if the fact named is the first of P outside X, all of P before it being inside; negative exactly if all of P
 -- is inside and the fact is the first of N that is
-pub record Named (X : Facts) (P N : List ℕ) (number : ℕ → ℕ) (v : Verdict) : Type 0 where
-  pub positive-is : (v .kind ≡ 1) ↔ FirstUnmet X P N (positive (v .fact))
-  pub negative-is : (v .kind ≡ 2) ↔ FirstUnmet X P N (negative (v .fact))
+pub record Named (X used : Facts) (P N names : List ℕ) (number : ℕ → ℕ) (v : Verdict) : Type 0 where
+  pub positive-is : (v .kind ≡ 1) ↔ FirstUnmet X used P N names (positive (v .fact))
+  pub negative-is : (v .kind ≡ 2) ↔ FirstUnmet X used P N names (negative (v .fact))
   pub one-is : (v .kind ≡ 1) ⊎ (v .kind ≡ 2)
   pub positive-round : v .kind ≡ 1 → v .round ≡ 65535
   pub negative-round : v .kind ≡ 2 → v .round ≡ number (v .fact)
 
 -- "Verdict and line show both .. (`none` where there is no value)": for 10 of the blocked step's rule, for 11 of the
--- attack state, in the closure of the last state reached; for every other number none
+-- attack state, in the closure of the last state reached; for every other number none. For 13 "the verdict's fact being
+-- the first used name", P and N being met (wish 9)
 pub record Kinds (m t : List ℕ) (v : Verdict) : Type 0 where
-  pub no-kind : v .number < 10 → (v .kind ≡ 0) × (v .round ≡ 65535)
+  pub no-kind : (v .number ≡ 10 → ⊥) → (v .number ≡ 11 → ⊥) → (v .kind ≡ 0) × (v .round ≡ 65535)
   pub of-rule : v .number ≡ 10
       → let M = modelOf m in
-      let S = outcome m t .state .facts in
+      let S = outcome m t .state in
       let r = ruleOf M (getD (traceOf t .steps) (v .step) 0) in
-      Named (closure (M .clauses) S) (r .P) (r .N) (roundNumber (M .clauses) S) v
+      Named (closure (M .clauses) (S .facts)) (S .names) (r .P) (r .N) (r .names)
+      (roundNumber (M .clauses) (S .facts)) v
   pub of-goal : v .number ≡ 11
       → let M = modelOf m in
-      let S = outcome m t .state .facts in
+      let S = outcome m t .state in
       let g = goalOf M (traceOf t .goal) in
-      Named (closure (M .clauses) S) (g .P) (g .N) (roundNumber (M .clauses) S) v
+      Named (closure (M .clauses) (S .facts)) (S .names) (g .P) (g .N) [] (roundNumber (M .clauses) (S .facts)) v
+  pub of-name : v .number ≡ 13
+      → let M = modelOf m in
+      let S = outcome m t .state in
+      let r = ruleOf M (getD (traceOf t .steps) (v .step) 0) in
+      FirstUnmetOf (closure (M .clauses) (S .facts)) S r (unused (v .fact))
+
+-- ---- names (document 02, wish 9)
+
+-- "Firing uses them, and nothing frees them.": no two of these steps make the same name, and none makes one that is in
+-- use at the start
+pub record FreshSteps (m : Model) (ks : List ℕ) : Type 0 where
+  pub once : (n i j : ℕ) → Makes m ks i n → Makes m ks j n → i ≡ j
+  pub start : (n i : ℕ) → n ∈ m .names → Makes m ks i n → ⊥
+
+-- step i is the first that can't fire: those before it lead to a state in which n is the first used name of its rule,
+-- all of P being in the closure and none of N
+pub record UsedAt (m t : List ℕ) (i n : ℕ) : Type 0 where
+  pub there : i < length (traceOf t .steps)
+  pub state : State
+  pub path : Path (modelOf m) (start (modelOf m)) (take i (traceOf t .steps)) state
+  pub first : FirstUnmetOf (closure (modelOf m .clauses) (state .facts)) state
+      (ruleOf (modelOf m) (getD (traceOf t .steps) i 0)) (unused n)
 
 -- the part lies in the file marked
 pub data InFile (m t : List ℕ) (p : Part) : Type 0 where
@@ -127,10 +160,12 @@ pub data InFile (m t : List ℕ) (p : Part) : Type 0 where
 
 -- ---- versions (document 02, wish 2)
 
--- "a persistent set, empty for version 1": a model of version 1 and one without persistent facts, the same lists
+-- "a persistent set, empty for version 1": a model of version 1 and one without persistent facts and names, the same
+-- lists
 pub record SameLists (one two : List ℕ) : Type 0 where
   pub version : getD one 0 0 ≡ 1
   pub none-persistent : modelOf two .persistent ≡ []
+  pub none-names : modelOf two .names ≡ []
   pub F : modelOf one .F ≡ modelOf two .F
   pub initial : modelOf one .initial ≡ modelOf two .initial
   pub clauses : modelOf one .clauses ≡ modelOf two .clauses

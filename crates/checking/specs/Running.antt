@@ -2,19 +2,19 @@
 -- the outside rests on these.
 use Prim.Native.Nat.{ℕ, _+_, _*_, _≤_, _<_}
 use mathlib.Core.Path.{_≡_}
-use mathlib.Core.List.{List}
+use mathlib.Core.List.{List, []}
 use mathlib.Core.Option.{Option, none, some}
 use lib.ListN.{length, getD, drop}
 use Rattle.sets.specs.Sets.{Facts}
-use Rattle.meaning.specs.Model.{Model, goalOf, start}
+use Rattle.meaning.specs.Model.{Model, State, goalOf, start}
 use Rattle.meaning.specs.Run.{Condition, Reached, Ending, Outcome, conditions, unmet, reach}
-use Rattle.meaning.specs.Run.Condition.{positive, negative}
+use Rattle.meaning.specs.Run.Condition.{positive, negative, unused}
 use Rattle.meaning.specs.Run.Ending.{attack, blocked, notMet}
 use Rattle.meaning.specs.Rounds.{rounds, roundNumber}
 use Rattle.facts.specs.Facts.{members, Kept}
 use Rattle.files.specs.Files.{pairFault, modelOf, traceOf}
 use Rattle.closing.specs.Closing.{Filled}
-use Rattle.checking.specs.Verdict.{Lent, factIn, outcome, Left}
+use Rattle.checking.specs.Verdict.{Lent, namesIn, outcome, Left}
 use Rattle.checking.specs.declared.conditions.Condition.the-variants as condition
 use Rattle.checking.specs.declared.conditions.Unmet.the-variants as found
 use Rattle.checking.specs.declared.running.Ending.the-variants as ending
@@ -26,11 +26,12 @@ use Rattle.checking.specs.declared.running.Ended.{Ended}
 unfoldable pub conditionOf : condition.the-data → Condition
 conditionOf (condition.Positive f) = positive f
 conditionOf (condition.Negative f) = negative f
+conditionOf (condition.Unused n) = unused n
 
-unfoldable pub unmetOf : found.the-data → Option Condition
+unfoldable pub unmetIn : found.the-data → Option Condition
 unfolding conditionOf
-unmetOf found.Nowhere = none
-unmetOf (found.At c) = some (conditionOf c)
+unmetIn found.Nowhere = none
+unmetIn (found.At c) = some (conditionOf c)
 
 unfoldable pub endingOf : ending.the-data → Ending
 unfolding conditionOf
@@ -38,10 +39,11 @@ endingOf ending.Attack = attack
 endingOf (ending.Blocked c) = blocked (conditionOf c)
 endingOf (ending.NotMet c) = notMet (conditionOf c)
 
--- the condition's fact is one that a table has an entry for
+-- a table has an entry for the condition's fact, where it is judged by the table
 unfoldable pub KnownIn : Condition → Type 0
-unfolding factIn
-KnownIn c = factIn c < 4096
+KnownIn (positive f) = f < 4096
+KnownIn (negative f) = f < 4096
+KnownIn (unused n) = Unit
 
 -- ---- the run
 
@@ -50,6 +52,11 @@ pub record Ready (m t : List ℕ) (l : Lent) : Type 0 where
   pub fine : pairFault m t ≡ none
   pub room : 512 ≤ length (l .state)
   pub entries : 4096 ≤ length (l .table)
+  pub names : 128 ≤ length (l .names)
+
+-- the state that is in the buffers
+abbrev pub stateIn : Lent → State
+stateIn l = record { facts = members (l .state); names = namesIn (l .names) }
 
 -- where the pair's steps lead
 unfoldable pub reached : List ℕ → List ℕ → Reached
@@ -64,10 +71,12 @@ counted m r = elim (r .stop) [ none ↦ r .earlier | some c ↦ r .earlier + rou
 -- what the search over the steps leaves: the last state, and where a step is blocked in it, its round numbers
 pub record StepsTo (m t : List ℕ) (before after : Lent) (r : Steps) : Type 0 where
   pub fired : r .fired ≡ reached m t .fired
-  pub stop : unmetOf (r .stop) ≡ reached m t .stop
+  pub stop : unmetIn (r .stop) ≡ reached m t .stop
   pub rounds : r .rounds ≡ counted (modelOf m) (reached m t)
   pub facts : (g : ℕ) → members (after .state) g ≡ reached m t .state .facts g
   pub kept : Kept 512 (before .state) (after .state)
+  pub names : (n : ℕ) → namesIn (after .names) n ≡ reached m t .state .names n
+  pub names-kept : Kept 128 (before .names) (after .names)
   pub as-long : length (after .table) ≡ length (before .table)
   pub beyond : drop 4096 (after .table) ≡ drop 4096 (before .table)
   pub filled : (c : Condition) → reached m t .stop ≡ some c
@@ -76,9 +85,10 @@ pub record StepsTo (m t : List ℕ) (before after : Lent) (r : Steps) : Type 0 w
   pub bound : r .rounds ≤ 4096 * (r .fired + 1)
 
 -- what the attack state's conditions come to in a set: in the last state's closure, what `asked` says
-unfoldable pub askedIn : Model → ℕ → Facts → Ending
+unfoldable pub askedIn : Model → ℕ → Facts → Facts → Ending
 unfolding unmet conditions goalOf
-askedIn m g X = elim (unmet X (conditions (goalOf m g .P) (goalOf m g .N))) [ none ↦ attack | some c ↦ notMet c ]
+askedIn m g X used =
+    elim (unmet X used (conditions (goalOf m g .P) (goalOf m g .N) [])) [ none ↦ attack | some c ↦ notMet c ]
 
 -- what the run has come to, with the facts held
 pub record Shows (o : Outcome) (steps : ℕ) (e : Ended) (held : ℕ) : Type 0 where

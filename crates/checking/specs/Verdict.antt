@@ -2,14 +2,18 @@
 -- "The verdict also has", "Buffers").
 use Prim.Native.Nat.{ℕ, _+_}
 use mathlib.Core.Path.{_≡_}
+use mathlib.Core.Bool.{Bool, _||_}
 use mathlib.Core.List.{List}
 use mathlib.Core.Option.{Option, none, some, Option·map}
+use lib.Dec.{ltb}
+use lib.ListN.{length}
+use Rattle.sets.specs.Sets.{Facts}
 use Rattle.meaning.specs.Model.{Model}
 use Rattle.meaning.specs.Rounds.{roundNumber}
 use Rattle.meaning.specs.Run.{Condition, Ending, Outcome, run}
-use Rattle.meaning.specs.Run.Condition.{positive, negative}
+use Rattle.meaning.specs.Run.Condition.{positive, negative, unused}
 use Rattle.meaning.specs.Run.Ending.{attack, blocked, notMet}
-use Rattle.facts.specs.Facts.{members, Kept}
+use Rattle.facts.specs.Facts.{within, members, Kept}
 use Rattle.records.specs.Records.{given, _orElse_}
 use Rattle.files.specs.Files.{Blamed, modelOf, traceOf, pairFault}
 use Rattle.files.specs.Answers.{blamedNumber, blamedPart, entryPart, goalPart}
@@ -19,10 +23,21 @@ use Rattle.checking.specs.declared.Verdict.{Verdict}
 
 -- ---- what is lent
 
--- the memory that a check is lent: the state's buffer and the round table
+-- the memory that a check is lent: the state's buffer, the round table and "a further lent 128 bytes" for names
+-- (document 02, wish 9)
 pub record Lent : Type 0 where
   pub state : List ℕ
   pub table : List ℕ
+  pub names : List ℕ
+
+-- "the new bytes hold the last state's used names, laid out like facts"
+abbrev pub namesIn : List ℕ → Facts
+namesIn = within 128
+
+-- 1: "state buffer under 512 bytes or round table under 4,096 entries"; of the names' bytes, "ROOM covers them"
+unfoldable pub noSpace : Lent → Bool
+unfolding noRoom
+noSpace l = noRoom (l .state) (l .table) || ltb (length (l .names)) 128
 
 -- ---- refusals
 
@@ -43,21 +58,29 @@ blamed b = refused (blamedNumber b) (blamedPart b)
 
 -- "Order: 1; 2 (model, then trace); .. all before any step is run.": no room, then the pair's first fault
 unfoldable pub refusal : List ℕ → List ℕ → Lent → Option Verdict
-unfolding noRoom refused blamed given _orElse_ pairFault
-refusal m t l = given (noRoom (l .state) (l .table)) (refused 1 nothing) orElse Option·map blamed (pairFault m t)
+unfolding noSpace refused blamed given _orElse_ pairFault
+refusal m t l = given (noSpace l) (refused 1 nothing) orElse Option·map blamed (pairFault m t)
 
 -- ---- the numbers and values of each ending
 
--- 0 ATTACK, 10 BLOCKED, 11 NOATTACK
+-- a step that can't fire: 10 BLOCKED; "a used one is 13 USED" (document 02, wish 9)
+unfoldable pub stopNumber : Condition → ℕ
+stopNumber (positive f) = 10
+stopNumber (negative f) = 10
+stopNumber (unused n) = 13
+
+-- 0 ATTACK, 10 BLOCKED, 11 NOATTACK, 13 USED
 unfoldable pub numberOf : Ending → ℕ
+unfolding stopNumber
 numberOf attack = 0
-numberOf (blocked c) = 10
+numberOf (blocked c) = stopNumber c
 numberOf (notMet c) = 11
 
--- a condition's fact
+-- a condition's fact; "the verdict's fact being the first used name"
 unfoldable pub factIn : Condition → ℕ
 factIn (positive f) = f
 factIn (negative f) = f
+factIn (unused n) = n
 
 -- "for 10 and 11 the first unmet condition ..; otherwise 65,535"
 unfoldable pub factOf : Ending → ℕ
@@ -66,10 +89,12 @@ factOf attack = 65535
 factOf (blocked c) = factIn c
 factOf (notMet c) = factIn c
 
--- document 02, wish 7: "whether the unmet one was positive or negative": 1 is positive, 2 negative
+-- document 02, wish 7: "whether the unmet one was positive or negative": 1 is positive, 2 negative; of a used name,
+-- "kind and round none"
 unfoldable pub kindIn : Condition → ℕ
 kindIn (positive f) = 1
 kindIn (negative f) = 2
+kindIn (unused n) = 0
 
 -- 0 "where there is no value"
 unfoldable pub kindOf : Ending → ℕ
@@ -82,6 +107,7 @@ kindOf (notMet c) = kindIn c
 unfoldable pub roundIn : (ℕ → ℕ) → Condition → ℕ
 roundIn number (positive f) = 65535
 roundIn number (negative f) = number f
+roundIn number (unused n) = 65535
 
 -- 65,535 "where there is no value"
 unfoldable pub roundOf : (ℕ → ℕ) → Ending → ℕ
@@ -91,7 +117,7 @@ roundOf number (blocked c) = roundIn number c
 roundOf number (notMet c) = roundIn number c
 
 -- "9 and 10: the two bytes in the trace. 11: the attack state's record.": the blocked step's entry stands after the
--- attack state's
+-- attack state's; for 13 "all else as for BLOCKED"
 unfoldable pub partFor : List ℕ → List ℕ → ℕ → Ending → Part
 unfolding entryPart goalPart traceOf
 partFor m t step attack = nothing
@@ -128,10 +154,13 @@ verdictOf m t none = ran m t (outcome m t)
 -- ---- the buffers
 
 -- "For 0, 10 and 11 the first 512 bytes hold the last state reached .. bits from F on are zero. The first 4,096 table
--- entries hold that state's round numbers .. Anything beyond is unchanged."
+-- entries hold that state's round numbers .. Anything beyond is unchanged."; the names' bytes "wherever the state is
+-- written"
 pub record Left (m : Model) (o : Outcome) (before after : Lent) : Type 0 where
   pub facts : (g : ℕ) → members (after .state) g ≡ o .state .facts g
   pub kept : Kept 512 (before .state) (after .state)
+  pub names : (n : ℕ) → namesIn (after .names) n ≡ o .state .names n
+  pub names-kept : Kept 128 (before .names) (after .names)
   pub rounds : Filled (m .clauses) (o .state .facts) (before .table) (after .table)
 
 -- "1 to 9 change nothing."

@@ -1,6 +1,6 @@
 // The verdict on a pair of files, and what it leaves in the lent buffers.
-// conditions: the test of conditions in a round table; stepping: how a state changes; running: the run of a judged
-// pair.
+// conditions: the test of conditions in a round table and used names; stepping: how a state changes; running: the run
+// of a judged pair.
 ghost use mathlib.Core.Path.{_≡_};
 ghost use Rattle.checking.specs.Verdict.{Checked, refused};
 
@@ -41,14 +41,20 @@ fn refuse(number: u8, part: Part) -> Verdict
     }
 }
 
-// The verdict on a model and a trace. A refusal leaves both buffers as they were; otherwise the first 512 bytes hold
-// the last state reached and the first 4,096 entries its round numbers.
-pub fn check(model: &[u8], trace: &[u8], state: &mut [u8], table: &mut [u16]) -> Verdict
+// The verdict on a model and a trace. A refusal leaves the buffers as they were; otherwise the first 512 bytes hold the
+// last state reached, the first 4,096 entries its round numbers and the first 128 bytes of `names` its used names.
+pub fn check(
+    model: &[u8],
+    trace: &[u8],
+    state: &mut [u8],
+    table: &mut [u16],
+    names: &mut [u8],
+) -> Verdict
     ensures { λ r. ⌜ Checked (now (model .entry)) (now (trace .entry))
-        (record { state = now (state .entry); table = now (table .entry) })
-        (record { state = now (state .exit); table = now (table .exit) }) r ⌝ }
+        (record { state = now (state .entry); table = now (table .entry); names = now (names .entry) })
+        (record { state = now (state .exit); table = now (table .exit); names = now (names .exit) }) r ⌝ }
 {
-    if state.len() < 512 || table.len() < 4096 {
+    if state.len() < 512 || table.len() < 4096 || names.len() < 128 {
         let nothing = Part {
             mark: 0,
             start: 0,
@@ -58,6 +64,6 @@ pub fn check(model: &[u8], trace: &[u8], state: &mut [u8], table: &mut [u16]) ->
     }
     match both::judge_pair(model, trace) {
         Pair::Fault(number, part) => refuse(number, part),
-        Pair::Fine(_) => running::run(model, trace, state, table),
+        Pair::Fine(_) => running::run(model, trace, state, table, names),
     }
 }

@@ -2,14 +2,14 @@
 // then asked of the last state reached. The caller has judged the pair and lends buffers of enough room.
 ghost use mathlib.Core.Path.{_≡_};
 ghost use mathlib.Core.Option.{none};
-ghost use Prim.Native.Nat.{ℕ, _≤_};
+ghost use Prim.Native.Nat.{_≤_};
 ghost use lib.ListN.{length};
-ghost use Rattle.sets.specs.Sets.{listed};
-ghost use Rattle.facts.specs.Facts.{members};
+ghost use Rattle.meaning.specs.Model.{start};
 ghost use Rattle.files.specs.Files.{pairFault, modelOf, traceOf};
 ghost use Rattle.closing.specs.Closing.{numbered};
-ghost use Rattle.checking.specs.Verdict.{outcome, ran, Left};
-ghost use Rattle.checking.specs.Running.{Ready, StepsTo, EndsAs, Shows, Numbers, endingOf, askedIn};
+ghost use Rattle.checking.specs.Verdict.{namesIn, outcome, ran, Left};
+ghost use Rattle.checking.specs.Running.{Ready, stateIn, StepsTo, EndsAs, Shows, Numbers, endingOf};
+ghost use Rattle.checking.specs.Running.{askedIn};
 use super::Verdict;
 use super::conditions;
 use super::conditions::Condition;
@@ -43,13 +43,21 @@ pub struct Ended {
 }
 
 // Runs the steps from the initial state and stops at the first condition of a step's rule that is not met, P in its
-// order and then N in its order. All of a rule's conditions are judged before the state is changed.
-fn search(model: &[u8], trace: &[u8], state: &mut [u8], table: &mut [u16]) -> Steps
-    requires { ⌜ Ready (now model) (now trace) (record { state = now state; table = now table })
-        × ((g : ℕ) → members (now state) g ≡ listed (modelOf (now model) .initial) g) ⌝ }
+// order, then N in its order, then the names that it makes. All of a rule's conditions are judged before the state is
+// changed.
+fn search(
+    model: &[u8],
+    trace: &[u8],
+    state: &mut [u8],
+    table: &mut [u16],
+    names: &mut [u8],
+) -> Steps
+    requires { ⌜ Ready (now model) (now trace) (record { state = now state; table = now table; names = now names })
+        × (stateIn (record { state = now state; table = now table; names = now names })
+        ≡ start (modelOf (now model))) ⌝ }
     ensures { λ r. ⌜ StepsTo (now (model .entry)) (now (trace .entry))
-        (record { state = now (state .entry); table = now (table .entry) })
-        (record { state = now (state .exit); table = now (table .exit) }) r ⌝ }
+        (record { state = now (state .entry); table = now (table .entry); names = now (names .entry) })
+        (record { state = now (state .exit); table = now (table .exit); names = now (names .exit) }) r ⌝ }
 {
     let entries = held::entries(trace);
     let steps = entries.len() / 2 - 1;
@@ -64,17 +72,18 @@ fn search(model: &[u8], trace: &[u8], state: &mut [u8], table: &mut [u16]) -> St
         let rule = held::record(model, Role::Rules, records::word_at(entries, 2 + 2 * fired));
         let p = lists::list_of(rule, Kind::Rule, 0);
         let n = lists::list_of(rule, Kind::Rule, 1);
-        let count = conditions::count(p, n);
+        let made = held::made(model, rule);
+        let count = conditions::count(p, n, made);
         let mut i = 0;
         while i < count {
-            let c = conditions::nth(p, n, i);
-            if !conditions::meets(table, c) {
+            let c = conditions::nth(p, n, made, i);
+            if !conditions::meets(table, names, c) {
                 break 'search Unmet::At(c);
             }
             i += 1;
         }
         let a = lists::list_of(rule, Kind::Rule, 2);
-        stepping::apply(p, a, persistent, state);
+        stepping::apply(p, a, persistent, made, state, names);
         fired += 1;
     };
     Steps {
@@ -85,10 +94,11 @@ fn search(model: &[u8], trace: &[u8], state: &mut [u8], table: &mut [u16]) -> St
 }
 
 // What is asked of the last state after all steps: whether the attack state is met in the closure that the table has.
-fn ask(model: &[u8], trace: &[u8], table: &[u16]) -> Ending
+// An attack state makes no names.
+fn ask(model: &[u8], trace: &[u8], table: &[u16], names: &[u8]) -> Ending
     requires { ⌜ (pairFault (now model) (now trace) ≡ none) × (4096 ≤ length (now table)) ⌝ }
     ensures { λ r. ⌜ endingOf r ≡ askedIn (modelOf (now (model .entry))) (traceOf (now (trace .entry)) .goal)
-        (numbered (now (table .entry))) ⌝ }
+        (numbered (now (table .entry))) (namesIn (now (names .entry))) ⌝ }
 {
     let goal = held::record(
         model,
@@ -97,20 +107,27 @@ fn ask(model: &[u8], trace: &[u8], table: &[u16]) -> Ending
     );
     let p = lists::list_of(goal, Kind::Goal, 0);
     let n = lists::list_of(goal, Kind::Goal, 1);
-    match conditions::first_unmet(p, n, table) {
+    match conditions::first_unmet(p, n, &goal[..0], table, names) {
         Unmet::Nowhere => Ending::Attack,
         Unmet::At(c) => Ending::NotMet(c),
     }
 }
 
 // The end of a run whose steps led so: a blocked step, or what is asked of the last state, which is closed for it.
-fn finish(model: &[u8], trace: &[u8], reached: Steps, state: &[u8], table: &mut [u16]) -> Ended
-    requires { ⌜ Ready (now model) (now trace) (record { state = now state; table = now table })
-        × StepsTo (now model) (now trace) (record { state = now state; table = now table })
-        (record { state = now state; table = now table }) reached ⌝ }
+fn finish(
+    model: &[u8],
+    trace: &[u8],
+    reached: Steps,
+    state: &[u8],
+    table: &mut [u16],
+    names: &[u8],
+) -> Ended
+    requires { ⌜ Ready (now model) (now trace) (record { state = now state; table = now table; names = now names })
+        × StepsTo (now model) (now trace) (record { state = now state; table = now table; names = now names })
+        (record { state = now state; table = now table; names = now names }) reached ⌝ }
     ensures { λ r. ⌜ EndsAs (now (model .entry)) (now (trace .entry))
-        (record { state = now (state .entry); table = now (table .entry) })
-        (record { state = now (state .entry); table = now (table .exit) }) r ⌝ }
+        (record { state = now (state .entry); table = now (table .entry); names = now (names .entry) })
+        (record { state = now (state .entry); table = now (table .exit); names = now (names .entry) }) r ⌝ }
 {
     let stop = reached.stop;
     match stop {
@@ -122,7 +139,7 @@ fn finish(model: &[u8], trace: &[u8], reached: Steps, state: &[u8], table: &mut 
         Unmet::Nowhere => {
             let rounds = closing::close_judged(model, state, table);
             Ended {
-                ending: ask(model, trace, table),
+                ending: ask(model, trace, table, names),
                 step: reached.fired,
                 rounds: reached.rounds + rounds,
             }
@@ -157,7 +174,7 @@ fn verdict(model: &[u8], trace: &[u8], ended: Ended, held: usize, table: &[u16])
             },
         },
         Ending::Blocked(c) => Verdict {
-            number: 10,
+            number: conditions::number_of(c),
             step,
             fact: conditions::fact_of(c),
             rounds,
@@ -180,16 +197,27 @@ fn verdict(model: &[u8], trace: &[u8], ended: Ended, held: usize, table: &[u16])
 }
 
 // Runs a judged pair.
-pub fn run(model: &[u8], trace: &[u8], state: &mut [u8], table: &mut [u16]) -> Verdict
-    requires { ⌜ Ready (now model) (now trace) (record { state = now state; table = now table }) ⌝ }
+pub fn run(
+    model: &[u8],
+    trace: &[u8],
+    state: &mut [u8],
+    table: &mut [u16],
+    names: &mut [u8],
+) -> Verdict
+    requires { ⌜ Ready (now model) (now trace) (record { state = now state; table = now table; names = now names }) ⌝ }
     ensures { λ r. ⌜
         (r ≡ ran (now (model .entry)) (now (trace .entry)) (outcome (now (model .entry)) (now (trace .entry))))
         × Left (modelOf (now (model .entry))) (outcome (now (model .entry)) (now (trace .entry)))
-        (record { state = now (state .entry); table = now (table .entry) })
-        (record { state = now (state .exit); table = now (table .exit) }) ⌝ }
+        (record { state = now (state .entry); table = now (table .entry); names = now (names .entry) })
+        (record { state = now (state .exit); table = now (table .exit); names = now (names .exit) }) ⌝ }
 {
-    stepping::begin(held::section(model, Role::Initial), state);
-    let reached = search(model, trace, state, table);
-    let ended = finish(model, trace, reached, state, table);
+    stepping::begin(
+        held::section(model, Role::Initial),
+        held::names(model),
+        state,
+        names,
+    );
+    let reached = search(model, trace, state, table, names);
+    let ended = finish(model, trace, reached, state, table, names);
     verdict(model, trace, ended, facts::count(state, 512), table)
 }

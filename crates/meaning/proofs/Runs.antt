@@ -4,17 +4,16 @@ use native.Mathlib.Nat.{zero-add, add-zero, add-suc, suc-add, add-assoc, add-sub
 use native.Mathlib.Numerals.{add-one}
 use native.Mathlib.Omega.{arith}
 use mathlib.Core.Path.{_≡_, refl, sym, _∙_, ap}
-use mathlib.Core.Logic.{_⊎_, inl, inr}
+use mathlib.Core.Logic.{inl, inr}
 use mathlib.Core.Bool.{Bool, true, false}
 use mathlib.Core.List.{List, [], _∷_, _++_, map, append-assoc, List·Memᴰ·head, List·Memᴰ·tail}
 use mathlib.Core.Option.{Option, none, some}
-use lib.Dec.{T}
 use lib.ListN.{length, getD, drop, drop-of-length-le, length-append, length-map, List·getD-append}
 use lib.Seq.{drop-cons, getD-append-add}
 use Rattle.sets.specs.Sets.{Facts, listed, _∈_}
-use Rattle.meaning.specs.Model.{Model, Trace, State, ruleOf, start}
+use Rattle.meaning.specs.Model.{Rule, Model, Trace, State, ruleOf, start}
 use Rattle.meaning.specs.Rounds.{rounds}
-use Rattle.meaning.specs.Run.{Condition, conditions, find, unmetOf}
+use Rattle.meaning.specs.Run.{Condition, conditions, find, unmetOf, after}
 use Rattle.meaning.specs.Run.{Reached, stays, onward, reach, outcomeOf, run}
 use Rattle.meaning.specs.Run.Condition.{positive, negative, unused}
 use Rattle.sets.proofs.Laws.{is-false, fails, by-test, listed-is}
@@ -86,49 +85,35 @@ pub listed-below : (F : ℕ) (xs : List ℕ) → ((f : ℕ) → f ∈ xs → f <
 unfolding Below
 listed-below F xs h f l = is-false (λ i. omega (arith, h f (listed-is xs f .0 i)))
 
--- A set with nothing but what another had and a list below F adds is below F.
-grown-below : (F : ℕ) (X Y : Facts) (xs : List ℕ) → ((f : ℕ) → T (Y f) → T (X f) ⊎ (f ∈ xs))
-    → ((f : ℕ) → f ∈ xs → f < F) → Below F X → Below F Y
+-- A rule that adds facts below F leaves a state below F.
+pub after-below : (F : ℕ) (kept : List ℕ) (r : Rule) (S : State) → ((f : ℕ) → f ∈ r .A → f < F)
+    → Below F (S .facts) → Below F (after kept r S .facts)
 unfolding Below
-grown-below F X Y xs grown h s f l =
-    is-false (λ t. elim (grown f t) [ inl k ↦ fails (s f l) k | inr m ↦ omega (arith, h f m) ])
+after-below F kept r S h s f l = is-false (λ t. elim (after-is kept r S .facts f .0 t) [
+  | inl k ↦ fails (s f l) (k .0)
+  | inr m ↦ omega (arith, h f m)
+])
 
--- What every rule keeps true of the state is true of the last state that is reached.
-reach-keeps : (m : Model) (Q : State → Type 0) → ((k : ℕ) (S : State) → Q S → Q (afterRule m k S))
-    → (S : State) (ks : List ℕ) → Q S → Q (reach m S ks .state)
+-- The last state that is reached from one below F is below F, if all rules add facts below F.
+pub reach-below : (m : Model) (F : ℕ) → ((k f : ℕ) → f ∈ ruleOf m k .A → f < F)
+    → (S : State) (ks : List ℕ) → Below F (S .facts) → Below F (reach m S ks .state .facts)
 unfolding reach stays onward
-reach-keeps m Q h S [] q = q
-reach-keeps m Q h S (k ∷ ks) q =
-    go (unmetOf m S (ruleOf m k)) refl (reach-keeps m Q h (afterRule m k S) ks (h k S q))
+reach-below m F h S [] s = s
+reach-below m F h S (k ∷ ks) s =
+    let S' = afterRule m k S in
+    go (unmetOf m S (ruleOf m k)) refl (reach-below m F h S' ks (after-below F (m .persistent) (ruleOf m k) S (h k) s))
   where
-    go : (u : Option Condition) → unmetOf m S (ruleOf m k) ≡ u → Q (reach m (afterRule m k S) ks .state)
-        → Q (reach m S (k ∷ ks) .state)
-    go none e p = rw (e, reach) p
-    go (some c) e p = rw (e, reach) q
+    go : (u : Option Condition) → unmetOf m S (ruleOf m k) ≡ u
+        → Below F (reach m (afterRule m k S) ks .state .facts)
+        → Below F (reach m S (k ∷ ks) .state .facts)
+    go none e b = rw (e, reach) b
+    go (some c) e b = rw (e, reach) s
 
-module _ (m : Model) (t : Trace) where
-  -- The last state of a run is below F, if the initial facts are and all rules add facts below F.
-  pub run-below : ((f : ℕ) → f ∈ m .initial → f < m .F) → ((k f : ℕ) → f ∈ ruleOf m k .A → f < m .F)
-      → Below (m .F) (run m t .state .facts)
-  unfolding run outcomeOf start
-  run-below i h =
-      reach-keeps m (λ S. Below (m .F) (S .facts))
-      (λ k S.
-      grown-below (m .F) (S .facts) _ (ruleOf m k .A)
-      (λ f u. elim (after-is (m .persistent) (ruleOf m k) S .facts f .0 u) [ inl s ↦ inl (s .0) | inr a ↦ inr a ])
-      (h k))
-      (start m) (t .steps) (listed-below (m .F) (m .initial) i)
-
-  -- Its names are below a limit, if those in use at the start are and all rules make names below it.
-  pub names-below : (limit : ℕ) → ((n : ℕ) → n ∈ m .names → n < limit)
-      → ((k n : ℕ) → n ∈ ruleOf m k .names → n < limit) → Below limit (run m t .state .names)
-  unfolding run outcomeOf start
-  names-below limit i h =
-      reach-keeps m (λ S. Below limit (S .names))
-      (λ k S.
-      grown-below limit (S .names) _ (ruleOf m k .names) (λ n. after-is (m .persistent) (ruleOf m k) S .names n .0)
-      (h k))
-      (start m) (t .steps) (listed-below limit (m .names) i)
+-- The last state of a run is below F, if the initial facts are too.
+pub run-below : (m : Model) (t : Trace) → ((f : ℕ) → f ∈ m .initial → f < m .F)
+    → ((k f : ℕ) → f ∈ ruleOf m k .A → f < m .F) → Below (m .F) (run m t .state .facts)
+unfolding run outcomeOf start
+run-below m t i h = reach-below m (m .F) h (start m) (t .steps) (listed-below (m .F) (m .initial) i)
 
 -- ---- conditions by their index
 

@@ -7,23 +7,23 @@ use borrow.Author.Tests.{ltb-false}
 use denote.Ref.{now}
 use Rattle.files.specs.Files.{pairFault}
 use Rattle.files.proofs.Answers.{paired-fine, paired-fault}
-use Rattle.closing.specs.Closing.{noRoom}
 use Rattle.closing.proofs.Alone.{too-short, long-enough}
-use Rattle.checking.specs.Verdict.{Lent}
+use Rattle.checking.specs.Verdict.{Lent, noSpace}
+use Rattle.checking.proofs.Refusals.{short, enough}
 use Rattle.checking.proofs.Checks.{checked-room, checked-blamed, checked-run}
 use borrow.Author.Needs.{needs}
 use Rattle.checking.proofs.check.Statement.{statement}
 use Rattle.checking.proofs.check.Tie as tie
 
 abbrev lent : tie.Start → Lent
-lent s = record { state = now (s .args .state); table = now (s .args .table) }
+lent s = record { state = now (s .args .state); table = now (s .args .table); names = now (s .args .names) }
 
-abbrev start : tie.Else2 → tie.Start
-start c = c .before .before .before .before .before .before
+abbrev start : tie.Else3 → tie.Start
+start c = c .before .before .before .before .before .before .before .before
 
--- past the test there is room
-roomy : (c : tie.Else2) → noRoom (lent (start c) .state) (lent (start c) .table) ≡ false
-roomy c = long-enough _ _ (c .before .if1 .left) (c .if2 .left)
+-- past the tests there is room
+roomy : (c : tie.Else3) → noSpace (lent (start c)) ≡ false
+roomy c = enough _ (long-enough _ _ (c .before .before .if1 .left) (c .before .if2 .left)) (c .if3 .left)
 
 -- the pair has no fault
 pair-is-fine : (c : tie.After-enum-told)
@@ -35,9 +35,11 @@ refuse-requires c κs = search needs
 
 returns : tie.Need-returns
 returns c =
-    let s = c .before .before .before .before .before .before in
-    let short = too-short _ _ (⊎-elim (λ w. inl (w .taken)) (λ w. inr (w .1 .taken)) (c .before .if1 .came)) in
-    checked-room _ _ (lent s) short (c .refuse .ensures)
+    let s = c .before .before .before .before .before .before .before in
+    let tight =
+    ⊎-elim (λ w. inl (too-short _ _ (inl (w .taken))))
+    (⊎-elim (λ w. inl (too-short _ _ (inr (w .1 .taken)))) (λ w. inr (w .2 .taken))) (c .before .if1 .came) in
+    checked-room _ _ (lent s) (short (lent s) tight) (c .refuse .ensures)
 
 judge-pair-requires : tie.Need-judge-pair-requires
 judge-pair-requires c κs = search needs
@@ -53,9 +55,14 @@ enum-told c = search needs
 
 run-requires : tie.Need-run-requires
 run-requires c κs =
-    let told = c .before .before in
+    let told = c .before .before .before in
     let tested = told .before .before .before in
-    record { fine = pair-is-fine told; room = tested .before .if1 .left; entries = ltb-false _ _ (tested .if2 .left) }
+    record {
+      fine = pair-is-fine told;
+      room = tested .before .before .if1 .left;
+      entries = ltb-false _ _ (tested .before .if2 .left);
+      names = ltb-false _ _ (tested .if3 .left);
+    }
 
 returns-2 : tie.Need-returns-2
 returns-2 c =
@@ -69,10 +76,13 @@ same-length c = search needs
 same-length-2 : tie.Need-same-length-2
 same-length-2 c = search needs
 
+same-length-3 : tie.Need-same-length-3
+same-length-3 c = search needs
+
 returns-3 : tie.Need-returns-3
 returns-3 c =
-    let ran = c .before .before .before .before in
-    let told = ran .before .before .before in
+    let ran = c .before .before .before .before .before .before in
+    let told = ran .before .before .before .before in
     let tested = told .before .before .before in
     checked-run _ _ (lent (start tested)) (roomy tested) (pair-is-fine told) (ran .run .ensures .0)
     (ran .run .ensures .1)
@@ -91,4 +101,5 @@ check-spec =
     returns-2
     same-length
     same-length-2
+    same-length-3
     returns-3)

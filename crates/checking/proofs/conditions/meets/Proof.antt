@@ -1,4 +1,4 @@
--- `conditions::meets` meets its contract: a known fact is in the set where its entry is a number.
+-- `conditions::meets` meets its contract: a known fact is in the closure where its entry is a number.
 use Prim.Native.Nat.{_<_}
 use mathlib.Core.Path.{_≡_, refl, sym}
 use mathlib.Core.Bool.{Bool, true, false, not}
@@ -6,7 +6,6 @@ use native.Mathlib.Omega.{arith}
 use borrow.Author.Tests.{lt-ltb}
 use Rattle.meaning.specs.Run.{met}
 use Rattle.closing.specs.Closing.{numbered}
-use Rattle.checking.specs.Verdict.{factIn}
 use Rattle.checking.specs.Running.{conditionOf, KnownIn}
 use borrow.Author.Needs.{needs}
 use Rattle.checking.proofs.conditions.meets.Statement.{statement}
@@ -14,12 +13,12 @@ use Rattle.checking.proofs.conditions.meets.Tie as tie
 
 -- the fact has an entry
 small : (c : tie.After-c) → c .c .given .0 .0 < 4096
-unfolding KnownIn factIn conditionOf
-small c = rw (c .c .given .1) at (c .before .before .pre .0)
+unfolding KnownIn conditionOf
+small c = rw (c .c .given .1) at (c .before .before .before .before .pre .0)
 
 small2 : (c : tie.After-c2) → c .c2 .given .0 .0 < 4096
-unfolding KnownIn factIn conditionOf
-small2 c = rw (c .c2 .given .1) at (c .before .before .pre .0)
+unfolding KnownIn conditionOf
+small2 c = rw (c .c2 .given .1) at (c .before .before .before .before .pre .0)
 
 not-not : (b : Bool) → not (not b) ≡ b
 not-not true = refl
@@ -32,7 +31,7 @@ mul-result : tie.Need-mul-result
 mul-result c = omega (arith, small (c .before))
 
 shared-slice-read-result : tie.Need-shared-slice-read-result
-shared-slice-read-result c = omega (arith, small (c .before .before), c .before .before .before .before .pre .1)
+shared-slice-read-result c = omega (arith, small (c .before .before), c .before .before .before .before .before .before .pre .1)
 
 enum-known-c-2 : tie.Need-enum-known-c-2
 enum-known-c-2 c = search needs
@@ -41,7 +40,13 @@ mul-result-2 : tie.Need-mul-result-2
 mul-result-2 c = omega (arith, small2 (c .before))
 
 shared-slice-read-result-2 : tie.Need-shared-slice-read-result-2
-shared-slice-read-result-2 c = omega (arith, small2 (c .before .before), c .before .before .before .before .pre .1)
+shared-slice-read-result-2 c = omega (arith, small2 (c .before .before), c .before .before .before .before .before .before .pre .1)
+
+enum-known-c-3 : tie.Need-enum-known-c-3
+enum-known-c-3 c = search needs
+
+has-requires : tie.Need-has-requires
+has-requires c κs = search needs
 
 returns : tie.Need-returns
 unfolding met numbered conditionOf
@@ -55,6 +60,10 @@ returns-2 c =
     let told = c .before .before in
     rw (told .c2 .given .1, lt-ltb _ _ (small2 told)) (sym (not-not _))
 
+returns-3 : tie.Need-returns-3
+unfolding met conditionOf
+returns-3 c = rw (c .before .before .c3 .given .1, c .has .ensures)
+
 pub meets-spec : {M : Type 1} → statement M
 meets-spec =
     tie.close
@@ -65,5 +74,8 @@ meets-spec =
     enum-known-c-2
     mul-result-2
     shared-slice-read-result-2
+    enum-known-c-3
+    has-requires
     returns
-    returns-2)
+    returns-2
+    returns-3)

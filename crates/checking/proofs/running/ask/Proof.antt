@@ -8,7 +8,7 @@ use lib.Dec.{lit<}
 use lib.ListN.{length, getD}
 use Rattle.meaning.specs.Model.{Model, Goal, goalOf}
 use Rattle.meaning.specs.Run.{conditions, unmet}
-use Rattle.records.specs.Words.{word}
+use Rattle.records.specs.Words.{word, words}
 use Rattle.records.specs.Records.{records}
 use Rattle.records.specs.declared.Kind.the-variants as kind
 use Rattle.records.specs.Records.{listCount}
@@ -19,7 +19,8 @@ use Rattle.files.specs.Known.{Known}
 use Rattle.files.proofs.Lists.{goal-there, goal-record, goal-known, goal-P, goal-N}
 use Rattle.files.proofs.Traces.{pair-shape, pair-fits, pair-entries, pair-goal-known, goal-entry}
 use Rattle.closing.specs.Closing.{numbered}
-use Rattle.checking.specs.Running.{unmetOf, endingOf}
+use Rattle.checking.specs.Verdict.{namesIn}
+use Rattle.checking.specs.Running.{unmetIn, endingOf}
 use Rattle.checking.proofs.Ends.{asked-met, asked-unmet}
 use borrow.Author.Needs.{needs}
 use Rattle.checking.proofs.running.ask.Statement.{statement}
@@ -27,7 +28,7 @@ use Rattle.checking.proofs.running.ask.Tie as tie
 
 module _ (c : tie.After-word-at) where
   abbrev start : tie.Start
-  start = c .before .before .before .before .before
+  start = c .before .before .before .before .before .before
 
   abbrev M : Model
   M = modelOf (now (start .args .model))
@@ -57,11 +58,13 @@ module _ (c : tie.After-record) where
 
 -- the first unmet condition of the attack state, as the table shows
 unmet-is : (c : tie.After-first-unmet)
-    → let w = c .before .before .before .before in
-    unmetOf (c .first-unmet .result)
-    ≡ unmet (numbered (now (start w .args .table))) (conditions (goalOf (M w) (goal w) .P) (goalOf (M w) (goal w) .N))
+    → let w = c .before .before .before .before .before in
+    unmetIn (c .first-unmet .result)
+    ≡ unmet (numbered (now (start w .args .table))) (namesIn (now (start w .args .names)))
+    (conditions (goalOf (M w) (goal w) .P) (goalOf (M w) (goal w) .N) [])
+unfolding words
 unmet-is c =
-    let l = c .before in
+    let l = c .before .before in
     let r = l .before .before in
     let at : (which : Goal → List ℕ)
     → which (goalOf (M (r .before)) (r .before .word-at .result))
@@ -72,11 +75,11 @@ unmet-is c =
     rw (P-is, N-is) at (c .first-unmet .ensures)
 
 entries-requires : tie.Need-entries-requires
-entries-requires c κs = let s = c .before .before .before in pair-fits _ _ (s .pre .0)
+entries-requires c κs = let s = c .before .before .before .before in pair-fits _ _ (s .pre .0)
 
 word-at-requires : tie.Need-word-at-requires
 word-at-requires c κs =
-    let s = c .before .before .before .before in
+    let s = c .before .before .before .before .before in
     omega (arith, ap length (c .entries .ensures), pair-entries _ _ (s .pre .0))
 
 record-requires : tie.Need-record-requires
@@ -90,12 +93,16 @@ list-of-requires-2 : tie.Need-list-of-requires-2
 unfolding listCount
 list-of-requires-2 c κs = (cut-of (c .before), lit< tt)
 
+slice-aggregate-first-unmet : tie.Need-slice-aggregate-first-unmet
+slice-aggregate-first-unmet c = search needs
+
 first-unmet-requires : tie.Need-first-unmet-requires
-first-unmet-requires c κs = (
-  known-list (c .before .before) 0 (c .before .list-of .ensures),
-  known-list (c .before .before) 1 (c .list-of2 .ensures),
-  start (c .before .before .before) .pre .1,
-)
+first-unmet-requires c κs =
+    let l = c .before in (
+      known-list (l .before .before) 0 (l .before .list-of .ensures),
+      known-list (l .before .before) 1 (l .list-of2 .ensures),
+      start (l .before .before .before) .pre .1,
+    )
 
 enum-told : tie.Need-enum-told
 enum-told c = search needs
@@ -104,16 +111,16 @@ enum-known-c : tie.Need-enum-known-c
 enum-known-c c = search needs
 
 returns : tie.Need-returns
-unfolding endingOf unmetOf
+unfolding endingOf unmetIn
 returns c =
     let f = c .before .before in
-    asked-met _ _ _ (sym (unmet-is f) ∙ ap unmetOf (c .enum-told .given .1))
+    asked-met _ _ _ _ (sym (unmet-is f) ∙ ap unmetIn (c .enum-told .given .1))
 
 returns-2 : tie.Need-returns-2
-unfolding endingOf unmetOf
+unfolding endingOf unmetIn
 returns-2 c =
     let f = c .before .before .before in
-    asked-unmet _ _ _ (sym (unmet-is f) ∙ ap unmetOf (c .before .c .given .1))
+    asked-unmet _ _ _ _ (sym (unmet-is f) ∙ ap unmetIn (c .before .c .given .1))
 
 pub ask-spec : {M : Type 1} → statement M
 ask-spec =
@@ -124,6 +131,7 @@ ask-spec =
     record-requires
     list-of-requires
     list-of-requires-2
+    slice-aggregate-first-unmet
     first-unmet-requires
     enum-told
     enum-known-c

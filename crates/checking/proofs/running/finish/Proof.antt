@@ -18,16 +18,16 @@ enum-told c = search needs
 
 close-judged-requires : tie.Need-close-judged-requires
 close-judged-requires c κs =
-    let s = c .before .before .before .before .before .before .before in
+    let s = c .before .before .before .before .before .before .before .before in
     (pair-shape _ _ (s .pre .0 .fine), s .pre .0 .entries)
 
 ask-requires : tie.Need-ask-requires
 ask-requires c κs = search needs
 
-add-t16 : tie.Need-add-t16
-add-t16 c =
+add-t17 : tie.Need-add-t17
+add-t17 c =
     let closed = c .before .before .before .before .before in
-    let s = closed .before .before .before .before .before .before .before .before in
+    let s = closed .before .before .before .before .before .before .before .before .before in
     let m = now (s .args .model) in
     let t = now (s .args .trace) in
     omega (
@@ -41,7 +41,8 @@ add-t16 c =
 
 returns : tie.Need-returns
 returns c =
-    ends-blocked _ _ (c .before .before .before .before .before .before .before .pre .1) _ (c .before .stop .given .1)
+    let s = c .before .before .before .before .before .before .before .before in
+    ends-blocked _ _ (s .pre .1) _ (c .before .stop .given .1)
 
 same-length : tie.Need-same-length
 same-length c = search needs
@@ -50,7 +51,7 @@ returns-2 : tie.Need-returns-2
 returns-2 c =
     let closed = c .before .before .before .before .before in
     let told = closed .before .before in
-    let s = told .before .before .before .before .before .before in
+    let s = told .before .before .before .before .before .before .before in
     ends-asked _ _ (s .pre .1) (pair-shape _ _ (s .pre .0 .fine)) (told .enum-told .given .1)
     (closed .close-judged .ensures) (c .before .ask .ensures)
 
@@ -62,7 +63,7 @@ finish-spec =
     enum-told
     close-judged-requires
     ask-requires
-    add-t16
+    add-t17
     returns
     same-length
     returns-2)

@@ -1,9 +1,10 @@
 -- `running::run` meets its contract: the initial state, the steps, the end, and the verdict of it.
 use Prim.Native.Nat.{ℕ}
-use mathlib.Core.Path.{sym, ap, _∙_, subst}
+use mathlib.Core.Path.{sym, ap, _∙_, subst, fun-ext}
 use mathlib.Core.List.{List}
 use native.Mathlib.Omega.{arith}
 use Rattle.sets.specs.Sets.{listed}
+use Rattle.meaning.specs.Model as meant
 use Rattle.records.specs.Words.{words}
 use Rattle.facts.proofs.Laws.{kept-trans}
 use Rattle.files.specs.Files.{modelOf}
@@ -16,47 +17,65 @@ use Rattle.checking.proofs.running.run.Statement.{statement}
 use Rattle.checking.proofs.running.run.Tie as tie
 
 abbrev start : tie.After-section → tie.Start
-start c = c .before .before .before .before .before
+start c = c .before .before .before .before .before .before
+
+abbrev section-of : tie.After-begin → tie.After-section
+section-of c = c .before .before .before .before
 
 abbrev begun : tie.After-search → tie.After-begin
-begun c = c .before .before .before .before .before
+begun c = c .before .before .before .before .before .before .before .before
 
 abbrev found-of : tie.After-finish → tie.After-search
-found-of c = c .before .before .before .before .before .before .before
+found-of c = c .before .before .before .before .before .before .before .before .before .before
 
 section-requires : tie.Need-section-requires
-section-requires c κs = pair-shape _ _ (c .before .before .before .before .pre .fine)
+section-requires c κs = pair-shape _ _ (c .before .before .before .before .before .pre .fine)
+
+names-requires : tie.Need-names-requires
+names-requires c κs = pair-shape _ _ (start c .pre .fine)
 
 begin-requires : tie.Need-begin-requires
-begin-requires c κs = (
-  subst Known (sym (c .before .section .ensures)) (initial-known _ (pair-shape _ _ (start (c .before) .pre .fine))),
-  start (c .before) .pre .room,
-)
+begin-requires c κs =
+    let n = c .before .before in
+    let s = start (n .before) in (
+      subst Known (sym (n .before .section .ensures)) (initial-known _ (pair-shape _ _ (s .pre .fine))),
+      n .names .ensures .1,
+      s .pre .room,
+      s .pre .names,
+    )
 
 search-requires : tie.Need-search-requires
-unfolding modelOf
+unfolding modelOf meant.start
 search-requires c κs =
-    let b = c .before .before .before .before in
-    let s = start (b .before .before) in
-    let began = b .begin .ensures in (
+    let b = c .before .before .before .before .before .before .before in
+    let s = start (section-of b) in
+    let facts = b .begin .ensures .0 in
+    let names = b .begin .ensures .1 in
+    let initial = section-of b .section .ensures in
+    let in-use = b .before .before .before .names .ensures .0 in (
       record {
         fine = s .pre .fine;
-        room = omega (arith, began .kept .as-long, s .pre .room);
+        room = omega (arith, facts .kept .as-long, s .pre .room);
         entries = s .pre .entries;
+        names = omega (arith, names .kept .as-long, s .pre .names);
       },
-      λ g. began .facts g ∙ ap (λ (l : List ℕ). listed (words l) g) (b .before .before .section .ensures),
+      λ i. record {
+        facts = fun-ext (λ g. facts .set g ∙ ap (λ (l : List ℕ). listed (words l) g) initial) i;
+        names = fun-ext (λ g. names .set g ∙ ap (λ (l : List ℕ). listed l g) in-use) i;
+      },
     )
 
 finish-requires : tie.Need-finish-requires
 finish-requires c κs =
-    let found = c .before .before .before .before .before .before in
+    let found = c .before .before .before .before .before .before .before .before .before in
     let b = begun found in
-    let s = start (b .before .before) in
+    let s = start (section-of b) in
     let led = found .search .ensures in (
       record {
         fine = s .pre .fine;
-        room = omega (arith, led .kept .as-long, b .begin .ensures .kept .as-long, s .pre .room);
+        room = omega (arith, led .kept .as-long, b .begin .ensures .0 .kept .as-long, s .pre .room);
         entries = omega (arith, led .as-long, s .pre .entries);
+        names = omega (arith, led .names-kept .as-long, b .begin .ensures .1 .kept .as-long, s .pre .names);
       },
       steps-here _ _ led,
     )
@@ -67,7 +86,7 @@ count-requires c κs = search needs
 verdict-requires : tie.Need-verdict-requires
 verdict-requires c κs =
     let f = c .before .before .before .before .before in
-    let s = start (begun (found-of f) .before .before) in
+    let s = start (section-of (begun (found-of f))) in
     let ended = f .finish .ensures in
     let table = ended .left .rounds in (
       s .pre .fine,
@@ -87,23 +106,32 @@ verdict-requires c κs =
 same-length : tie.Need-same-length
 same-length c =
     let f = c .before .before .before .before .before .before in
-    found-of f .search .ensures .kept .as-long ∙ begun (found-of f) .begin .ensures .kept .as-long
+    found-of f .search .ensures .kept .as-long ∙ begun (found-of f) .begin .ensures .0 .kept .as-long
 
 same-length-2 : tie.Need-same-length-2
 same-length-2 c = search needs
 
+same-length-3 : tie.Need-same-length-3
+same-length-3 c =
+    let f = c .before .before .before .before .before .before in
+    found-of f .search .ensures .names-kept .as-long ∙ begun (found-of f) .begin .ensures .1 .kept .as-long
+
 returns : tie.Need-returns
 returns c =
     let f = c .before .before .before .before .before .before in
-    let led = found-of f .search .ensures in
-    let kept = kept-trans (begun (found-of f) .begin .ensures .kept) (led .kept) in
-    (c .verdict .ensures, left-from kept (led .as-long) (led .beyond) (f .finish .ensures .left))
+    let began = begun (found-of f) .begin .ensures in
+    let led = found-of f .search .ensures in (
+      c .verdict .ensures,
+      left-from (kept-trans (began .0 .kept) (led .kept)) (kept-trans (began .1 .kept) (led .names-kept))
+          (led .as-long) (led .beyond) (f .finish .ensures .left),
+    )
 
 pub run-spec : {M : Type 1} → statement M
 run-spec =
     tie.close
     (tie.spec
     section-requires
+    names-requires
     begin-requires
     search-requires
     finish-requires
@@ -111,4 +139,5 @@ run-spec =
     verdict-requires
     same-length
     same-length-2
+    same-length-3
     returns)

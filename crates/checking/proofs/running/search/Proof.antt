@@ -1,6 +1,7 @@
 -- `running::search` meets its contract: at the head of the outer loop the buffers hold the state reached (`On`); along
 -- the conditions of a step's rule the first unmet one is among those still ahead (`Looking`).
-use Rattle.checking.specs.Running.{unmetOf}
+use Rattle.checking.specs.Verdict.{Lent, namesIn}
+use Rattle.checking.specs.Running.{unmetIn}
 use Prim.Native.Nat.{ℕ, _+_, _-_, _*_, _/_, _≤_, _<_}
 use mathlib.Core.Path.{_≡_, refl, sym, ap, _∙_, subst}
 use mathlib.Core.List.{List, []}
@@ -12,18 +13,19 @@ use denote.Ref.{now}
 use lib.Dec.{lit<}
 use lib.ListN.{length, getD, drop}
 use Rattle.meaning.specs.Model.{Rule, ruleOf}
-use Rattle.meaning.specs.Run.{Condition, unmet}
+use Rattle.meaning.specs.Run.{Condition, unmet, unmetOf}
 use Rattle.facts.specs.Facts.{members}
 use Rattle.records.specs.Words.{word, words}
 use Rattle.records.specs.Records.{records}
 use Rattle.records.specs.declared.Kind.the-variants as kind
 use Rattle.records.specs.Records.{listCount}
+use Rattle.records.proofs.Places.{record-in}
 use Rattle.lists.specs.Lists.{Cut, ListBytes}
 use Rattle.sections.specs.declared.Role.the-variants.{Rules}
-use Rattle.files.specs.Files.{pairFault, shapeFault, modelOf, traceOf, sectionOf}
+use Rattle.files.specs.Files.{pairFault, shapeFault, ruleIn, modelOf, traceOf, sectionOf}
 use Rattle.files.specs.Known.{Known}
 use Rattle.files.proofs.Laws.{persistent-ascending, persistent-in}
-use Rattle.files.proofs.Lists.{rule-there, rule-record, rule-known, rule-P, rule-N, rule-A}
+use Rattle.files.proofs.Lists.{rule-in, rule-there, rule-record, rule-known, rule-P, rule-N, rule-A}
 use Rattle.files.proofs.Traces.{pair-shape, pair-fits, pair-entries, pair-few, pair-step, pair-step-known}
 use Rattle.closing.specs.Closing.{numbered, ClosesUnder}
 use Rattle.checking.proofs.Looking.{asks, asks-length, asks-known, Looking, looking-start, looking-hit}
@@ -33,24 +35,26 @@ use Rattle.checking.proofs.running.search.Statement.{statement}
 use Rattle.checking.proofs.running.search.Tie as tie
 
 abbrev Inv-loop : tie.InvT-loop
-Inv-loop model trace state table entries steps persistent fired rounds rule p n count i₀ i =
-    Looking p n (numbered table) i
+Inv-loop model trace state table names entries steps persistent fired rounds rule p n made count i₀ i =
+    Looking p n made (numbered table) (namesIn names) i
 
 abbrev μ-loop : tie.MeasureT-loop
-μ-loop model trace state table entries steps persistent fired rounds rule p n count i₀ i = count - i
+μ-loop model trace state table names entries steps persistent fired rounds rule p n made count i₀ i = count - i
 
 abbrev Inv-search : tie.InvT-search
-Inv-search model trace state₀ table₀ entries steps persistent fired₀ rounds₀ state table fired rounds =
-    On model trace state₀ table₀ state table fired rounds
+Inv-search model trace state₀ table₀ names₀ entries steps persistent fired₀ rounds₀ state table names fired rounds =
+    On model trace (record { state = state₀; table = table₀; names = names₀ })
+    (record { state = state; table = table; names = names }) fired rounds
 
 abbrev μ-search : tie.MeasureT-search
-μ-search model trace state₀ table₀ entries steps persistent fired₀ rounds₀ state table fired rounds = steps - fired
+μ-search model trace state₀ table₀ names₀ entries steps persistent fired₀ rounds₀ state table names fired rounds =
+    steps - fired
 
 -- ---- what is known before a step
 
 module _ (s : tie.At-search Inv-loop μ-loop Inv-search μ-search) where
   abbrev start : tie.Start Inv-loop μ-loop Inv-search μ-search
-  start = s .before .before .before .before .before .before .before
+  start = s .before .before .before .before .before .before .before .before
 
   abbrev model : List ℕ
   model = now (start .args .model)
@@ -67,8 +71,12 @@ module _ (s : tie.At-search Inv-loop μ-loop Inv-search μ-search) where
   shape : shapeFault model ≡ none
   shape = pair-shape model trace fine
 
-  abbrev on : On model trace (now (start .args .state)) (now (start .args .table)) (s .search .state) (s .search .table)
-      (s .search .fired) (s .search .rounds)
+  abbrev lent : Lent
+  lent = record { state = s .search .state; table = s .search .table; names = s .search .names }
+
+  abbrev on : On model trace
+      (record { state = now (start .args .state); table = now (start .args .table); names = now (start .args .names) })
+      lent (s .search .fired) (s .search .rounds)
   on = s .search .inv
 
   few-steps : length ks ≤ 1024
@@ -82,6 +90,9 @@ module _ (s : tie.At-search Inv-loop μ-loop Inv-search μ-search) where
 
   room : 512 ≤ length (s .search .state)
   room = omega (arith, on .kept .as-long, start .pre .0 .room)
+
+  names-room : 128 ≤ length (s .search .names)
+  names-room = omega (arith, on .names-kept .as-long, start .pre .0 .names)
 
 -- ---- the state is closed
 
@@ -140,21 +151,24 @@ module _ (c : tie.After-record Inv-loop μ-loop Inv-search μ-search) where
   known-list : (j : ℕ) {bytes : List ℕ} → ListBytes kind.Rule (now (c .record .result)) j bytes → Known bytes
   known-list j {bytes} l = rule-known _ (shape (at-rule (c .before))) (known-rule (c .before)) j bytes (list-is j l)
 
-module _ (c : tie.After-list-of2 Inv-loop μ-loop Inv-search μ-search) where
+module _ (c : tie.After-made Inv-loop μ-loop Inv-search μ-search) where
   abbrev record-of : tie.After-record Inv-loop μ-loop Inv-search μ-search
-  record-of = c .before .before
+  record-of = c .before .before .before
 
   abbrev P : List ℕ
-  P = now (c .before .list-of .result)
+  P = now (c .before .before .list-of .result)
 
   abbrev N : List ℕ
-  N = now (c .list-of2 .result)
+  N = now (c .before .list-of2 .result)
+
+  abbrev made : List ℕ
+  made = now (c .made .result)
 
   known-P : Known P
-  known-P = known-list record-of 0 (c .before .list-of .ensures)
+  known-P = known-list record-of 0 (c .before .before .list-of .ensures)
 
   known-N : Known N
-  known-N = known-list record-of 1 (c .list-of2 .ensures)
+  known-N = known-list record-of 1 (c .before .list-of2 .ensures)
 
   table-long : 4096 ≤ length (table-of (closing-of (record-of .before)))
   table-long =
@@ -162,25 +176,25 @@ module _ (c : tie.After-list-of2 Inv-loop μ-loop Inv-search μ-search) where
       omega (arith, closed k .filled .as-long, long (at-closing k))
 
 module _ (c : tie.In-loop Inv-loop μ-loop Inv-search μ-search) where
-  abbrev lists : tie.After-list-of2 Inv-loop μ-loop Inv-search μ-search
+  abbrev lists : tie.After-made Inv-loop μ-loop Inv-search μ-search
   lists = c .before .before .before
 
-  below : (c .before .loop .i < length (P lists) / 2 + length (N lists) / 2)
-      × (c .before .loop .i < length (asks (P lists) (N lists)))
+  below : (c .before .loop .i < length (P lists) / 2 + length (N lists) / 2 + length (made lists) / 2)
+      × (c .before .loop .i < length (asks (P lists) (N lists) (made lists)))
   below =
-      let there : c .before .loop .i < length (P lists) / 2 + length (N lists) / 2 =
+      let there : c .before .loop .i < length (P lists) / 2 + length (N lists) / 2 + length (made lists) / 2 =
       omega (arith, c .before .before .count .ensures, c .loop-test .taken) in
-      (there, rw (asks-length (P lists) (N lists)) there)
+      (there, rw (asks-length (P lists) (N lists) (made lists)) there)
 
 module _ (c : tie.After-list-of3 Inv-loop μ-loop Inv-search μ-search) where
-  abbrev lists-3 : tie.After-list-of2 Inv-loop μ-loop Inv-search μ-search
+  abbrev lists-3 : tie.After-made Inv-loop μ-loop Inv-search μ-search
   lists-3 = c .before .before .before .before
 
   known-A : Known (now (c .list-of3 .result))
   known-A = known-list (record-of lists-3) 2 (c .list-of3 .ensures)
 
--- the conditions at hand are those of the step's rule, in the closure that the table shows
-module _ (c : tie.After-list-of2 Inv-loop μ-loop Inv-search μ-search) where
+-- the conditions at hand are those of the step's rule, in the closure that the table shows and the names in use
+module _ (c : tie.After-made Inv-loop μ-loop Inv-search μ-search) where
   abbrev word-of : tie.After-word-at Inv-loop μ-loop Inv-search μ-search
   word-of = record-of c .before
 
@@ -194,25 +208,34 @@ module _ (c : tie.After-list-of2 Inv-loop μ-loop Inv-search μ-search) where
   rule-is which = ap (λ k. which (ruleOf (modelOf (model here)) k)) (number-is word-of)
 
   P-is : words (P c) ≡ ruleOf (modelOf (model here)) (getD (ks here) (here .search .fired) 0) .P
-  P-is = rule-P _ _ (list-is (record-of c) 0 (c .before .list-of .ensures)) ∙ rule-is (λ r. r .P)
+  P-is = rule-P _ _ (list-is (record-of c) 0 (c .before .before .list-of .ensures)) ∙ rule-is (λ r. r .P)
 
   N-is : words (N c) ≡ ruleOf (modelOf (model here)) (getD (ks here) (here .search .fired) 0) .N
-  N-is = rule-N _ _ (list-is (record-of c) 1 (c .list-of2 .ensures)) ∙ rule-is (λ r. r .N)
+  N-is = rule-N _ _ (list-is (record-of c) 1 (c .before .list-of2 .ensures)) ∙ rule-is (λ r. r .N)
 
-  asked-is : (o : Option Condition) → unmet (numbered (table-of (closing-of word-of))) (asks (P c) (N c)) ≡ o
+  made-is : words (made c) ≡ ruleOf (modelOf (model here)) (getD (ks here) (here .search .fired) 0) .names
+  made-is =
+      c .made .ensures .0
+      ∙ ap (λ (r : List ℕ). ruleIn (getD (model here) 0 0) r .names) (record-of c .record .ensures)
+      ∙ ap (λ (r : Rule). r .names) (sym (rule-in (model here) (word-of .word-at .result)))
+      ∙ rule-is (λ r. r .names)
+
+  asked-is : (o : Option Condition)
+      → unmet (numbered (table-of (closing-of word-of))) (namesIn (here .search .names)) (asks (P c) (N c) (made c)) ≡ o
       → asked (model here) (trace here) (on here) o
-  asked-is o e = rw (P-is, N-is, closure-shown (model here) (shape here) (closed (closing-of word-of))) at e
+  unfolding unmetOf
+  asked-is o e = rw (P-is, N-is, made-is, closure-shown (model here) (shape here) (closed (closing-of word-of))) at e
 
 -- ---- the needs
 
 entries-requires : tie.Need-entries-requires Inv-loop μ-loop Inv-search μ-search
 entries-requires c κs =
-    let s = c .before .before .before .before in
+    let s = c .before .before .before .before .before in
     pair-fits (now (s .args .model)) (now (s .args .trace)) (s .pre .0 .fine)
 
 sub-steps : tie.Need-sub-steps Inv-loop μ-loop Inv-search μ-search
 sub-steps c =
-    let s = c .before .before .before .before .before in
+    let s = c .before .before .before .before .before .before in
     omega (
       arith,
       ap length (c .entries .ensures),
@@ -221,11 +244,11 @@ sub-steps c =
 
 section-requires : tie.Need-section-requires Inv-loop μ-loop Inv-search μ-search
 section-requires c κs =
-    let s = c .before .before .before .before .before in
+    let s = c .before .before .before .before .before .before in
     pair-shape (now (s .args .model)) (now (s .args .trace)) (s .pre .0 .fine)
 
 search-holds : tie.Need-search-holds Inv-loop μ-loop Inv-search μ-search
-search-holds c = on-start _ _ _ _ (c .before .before .before .before .before .before .pre .1)
+search-holds c = on-start _ _ _ (c .before .before .before .before .before .before .before .pre .1)
 
 close-judged-requires : tie.Need-close-judged-requires Inv-loop μ-loop Inv-search μ-search
 close-judged-requires c κs = let s = c .before .before .before in (shape s, long s)
@@ -257,67 +280,83 @@ list-of-requires-2 : tie.Need-list-of-requires-2 Inv-loop μ-loop Inv-search μ-
 unfolding listCount
 list-of-requires-2 c κs = (cut-of (c .before), lit< tt)
 
+made-requires : tie.Need-made-requires Inv-loop μ-loop Inv-search μ-search
+made-requires c κs =
+    let r = c .before .before in
+    let m = model (at-rule (r .before)) in (
+      shape (at-rule (r .before)),
+      rw (r .record .ensures) (record-in (records (sectionOf m Rules)) _ (rule-there m (known-rule (r .before)))),
+    )
+
 count-requires : tie.Need-count-requires Inv-loop μ-loop Inv-search μ-search
 count-requires c κs = search needs
 
 loop-holds : tie.Need-loop-holds Inv-loop μ-loop Inv-search μ-search
-loop-holds c = looking-start _ _ _
+loop-holds c = looking-start _ _ _ _ _
 
 nth-requires : tie.Need-nth-requires Inv-loop μ-loop Inv-search μ-search
-nth-requires c κs = (known-P (lists c), known-N (lists c), below c .0)
+nth-requires c κs = below c .0
 
 meets-requires : tie.Need-meets-requires Inv-loop μ-loop Inv-search μ-search
 meets-requires c κs =
-    let l = c .before .before in
-    let nth = c .before .nth .ensures in
-    (rw nth (asks-known _ _ _ (known-P (lists l)) (known-N (lists l)) (below l .0)), table-long (lists l))
+    let l = c .before .before .before in
+    let nth = c .before .before .nth .ensures in
+    (rw nth (asks-known _ _ _ _ (known-P (lists l)) (known-N (lists l)) (below l .0)), table-long (lists l))
 
 add-i : tie.Need-add-i Inv-loop μ-loop Inv-search μ-search
-add-i c = omega (arith, below (c .before .before .before .before) .0)
+add-i c = omega (arith, below (c .before .before .before .before .before) .0)
 
 loop-less : tie.Need-loop-less Inv-loop μ-loop Inv-search μ-search
 loop-less c = omega arith
 
 loop-again : tie.Need-loop-again Inv-loop μ-loop Inv-search μ-search
 loop-again c =
-    let l = c .before .before .before .before in
-    let nth = c .before .before .before .nth .ensures in
-    looking-next _ _ (l .before .loop .inv) (below l .1)
+    let l = c .before .before .before .before .before in
+    let nth = c .before .before .before .before .nth .ensures in
+    looking-next _ _ _ (l .before .loop .inv) (below l .1)
     (rw nth at (sym (c .before .meets .ensures) ∙ not-false _ (c .if2 .left)))
 
 list-of-requires-3 : tie.Need-list-of-requires-3 Inv-loop μ-loop Inv-search μ-search
 unfolding listCount
-list-of-requires-3 c κs = (cut-of (c .before .before .before .before .before), lit< tt)
+list-of-requires-3 c κs = (cut-of (record-of (c .before .before .before)), lit< tt)
 
 apply-requires : tie.Need-apply-requires Inv-loop μ-loop Inv-search μ-search
 apply-requires c κs =
-    let s = here (lists-3 (c .before)) in
-    (known-A (c .before), rw (s .before .section .ensures) (persistent-ascending (model s) (shape s)), room s)
+    let a = c .before .before in
+    let s = here (lists-3 a) in (
+      known-A a,
+      rw (s .before .section .ensures) (persistent-ascending (model s) (shape s)),
+      lists-3 a .made .ensures .1,
+      room s,
+      names-room s,
+    )
 
 add-fired : tie.Need-add-fired Inv-loop μ-loop Inv-search μ-search
 add-fired c =
-    let s = here (lists-3 (c .before .before .before .before)) in
+    let s = here (lists-3 (c .before .before .before .before .before .before .before)) in
     omega (arith, on s .within, few-steps s)
 
 search-less : tie.Need-search-less Inv-loop μ-loop Inv-search μ-search
 search-less c =
-    let l = lists-3 (c .before .before .before .before) in
+    let l = lists-3 (c .before .before .before .before .before .before .before) in
     omega (arith, step-there (closing-of (word-of l)), entries-size (here l))
 
 search-again : tie.Need-search-again Inv-loop μ-loop Inv-search μ-search
 search-again c =
-    let a = c .before .before .before .before in
+    let applied = c .before .before .before .before in
+    let a = applied .before .before .before in
     let l = lists-3 a in
     let k = closing-of (word-of l) in
     let done = a .before in
     let none-left =
-    looking-end (P l) (N l) (done .before .loop .inv)
-    (rw (asks-length (P l) (N l)) (omega (arith, done .before .before .count .ensures, done .loop-test .left))) in
-    on-fired (model (here l)) (trace (here l)) (on (here l)) (closed k) (step-there k) (asked-is l none none-left)
+    looking-end (P l) (N l) (made l) (done .before .loop .inv)
+    (rw (asks-length (P l) (N l) (made l))
+    (omega (arith, done .before .before .count .ensures, done .loop-test .left))) in
+    on-fired (model (here l)) (trace (here l)) (on (here l)) (closed k) refl (step-there k) (asked-is l none none-left)
     (few-more k) (P-is l)
-    (rule-A _ _ (list-is (record-of l) 2 (a .list-of3 .ensures)) ∙ rule-is l (λ r. r .A))
+    (rule-A _ _ (list-is (record-of l) 2 (a .list-of3 .ensures)) ∙ rule-is l (λ r. r .A)) (made-is l)
     (persistent-in _ (here l .before .section .ensures))
-    (c .before .before .apply .ensures)
+    (applied .apply .ensures .0) (applied .apply .ensures .1)
 
 same-length : tie.Need-same-length Inv-loop μ-loop Inv-search μ-search
 same-length c = on (c .before) .kept .as-long
@@ -325,27 +364,33 @@ same-length c = on (c .before) .kept .as-long
 same-length-2 : tie.Need-same-length-2 Inv-loop μ-loop Inv-search μ-search
 same-length-2 c = on (c .before) .as-long
 
+same-length-3 : tie.Need-same-length-3 Inv-loop μ-loop Inv-search μ-search
+same-length-3 c = on (c .before) .names-kept .as-long
+
 returns : tie.Need-returns Inv-loop μ-loop Inv-search μ-search
-unfolding unmetOf
+unfolding unmetIn
 returns c = on-end _ _ (on (c .before)) (omega (arith, c .if1 .taken, entries-size (c .before))) refl refl refl
 
-same-length-3 : tie.Need-same-length-3 Inv-loop μ-loop Inv-search μ-search
-same-length-3 c = on (here (lists (c .before .before .before .before))) .kept .as-long
-
 same-length-4 : tie.Need-same-length-4 Inv-loop μ-loop Inv-search μ-search
-same-length-4 c =
-    let l = lists (c .before .before .before .before) in
+same-length-4 c = on (here (lists (c .before .before .before .before .before))) .kept .as-long
+
+same-length-5 : tie.Need-same-length-5 Inv-loop μ-loop Inv-search μ-search
+same-length-5 c =
+    let l = lists (c .before .before .before .before .before) in
     closed (closing-of (word-of l)) .filled .as-long ∙ on (here l) .as-long
 
+same-length-6 : tie.Need-same-length-6 Inv-loop μ-loop Inv-search μ-search
+same-length-6 c = on (here (lists (c .before .before .before .before .before))) .names-kept .as-long
+
 returns-2 : tie.Need-returns-2 Inv-loop μ-loop Inv-search μ-search
-unfolding unmetOf
+unfolding unmetIn
 returns-2 c =
-    let at = c .before .before .before .before in
+    let at = c .before .before .before .before .before in
     let l = lists at in
     let k = closing-of (word-of l) in
-    let nth = c .before .before .before .nth .ensures in
+    let nth = c .before .before .before .before .nth .ensures in
     let hit =
-    looking-hit (P l) (N l) (at .before .loop .inv) (below at .1)
+    looking-hit (P l) (N l) (made l) (at .before .loop .inv) (below at .1)
     (rw nth at (sym (c .before .meets .ensures) ∙ not-true _ (c .if2 .taken))) in
     on-stop _ _ (on (here l)) (closed k) (step-there k) (asked-is l _ (hit ∙ ap some (sym nth))) refl refl refl
     (few-more k)
@@ -370,6 +415,7 @@ search-spec =
     record-requires
     list-of-requires
     list-of-requires-2
+    made-requires
     count-requires
     loop-holds
     nth-requires
@@ -384,7 +430,9 @@ search-spec =
     search-again
     same-length
     same-length-2
-    returns
     same-length-3
+    returns
     same-length-4
+    same-length-5
+    same-length-6
     returns-2)

@@ -42,6 +42,9 @@ enum-told c = search needs
 enum-known-ending : tie.Need-enum-known-ending
 enum-known-ending c = search needs
 
+number-of-requires : tie.Need-number-of-requires
+number-of-requires c κs = search needs
+
 fact-of-requires : tie.Need-fact-of-requires
 fact-of-requires c κs = search needs
 
@@ -50,18 +53,18 @@ kind-of-requires c κs = search needs
 
 round-of-requires : tie.Need-round-of-requires
 round-of-requires c κs =
-    let told = c .before .before .before in
+    let told = c .before .before .before .before in
     let s = told .before .before .before .before .before in
     (known-blocked s _ (told .ending .given .1), s .pre .2 .long)
 
 add-entry-part : tie.Need-add-entry-part
 add-entry-part c =
-    let s = c .before .before .before .before .before .before .before .before .before in
+    let s = c .before .before .before .before .before .before .before .before .before .before in
     omega (arith, s .pre .1 .within, pair-few _ _ (s .pre .0))
 
 entry-part-requires : tie.Need-entry-part-requires
 entry-part-requires c κs =
-    let s = c .before .before .before .before .before .before .before .before .before in
+    let s = c .before .before .before .before .before .before .before .before .before .before in
     omega (arith, s .pre .1 .within, pair-few _ _ (s .pre .0))
 
 enum-known-ending-2 : tie.Need-enum-known-ending-2
@@ -102,11 +105,12 @@ returns c = let s = c .before .before .before .before .before in ran-attack _ _ 
 returns-2 : tie.Need-returns-2
 returns-2 c =
     let r = c .before in
-    let told = r .before .before .before .before in
+    let f = r .before .before in
+    let told = f .before .before .before in
     let s = told .before .before .before .before .before in
     let known = known-blocked s _ (told .ending .given .1) in
-    ran-blocked _ _ _ _ (s .pre .1) _ (r .before .before .fact-of .ensures) (r .before .kind-of .ensures)
-    (r .round-of .ensures ∙ round-is _ _ (s .pre .2) _ known) (told .ending .given .1) (c .entry-part .ensures)
+    ran-blocked _ _ _ _ (s .pre .1) _ (f .fact-of .ensures) (r .before .kind-of .ensures)
+    (r .round-of .ensures ∙ round-is _ _ (s .pre .2) _ known) (f .before .number-of .ensures) (told .ending .given .1) (c .entry-part .ensures)
 
 returns-3 : tie.Need-returns-3
 returns-3 c =
@@ -125,6 +129,7 @@ verdict-spec =
     (tie.spec
     enum-told
     enum-known-ending
+    number-of-requires
     fact-of-requires
     kind-of-requires
     round-of-requires

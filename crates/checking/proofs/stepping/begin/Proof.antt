@@ -1,24 +1,25 @@
--- `begin` meets its contract: what is added to an empty state is all that it holds.
-use mathlib.Core.Path.{_∙_}
+-- `begin` meets its contract: each buffer is filled.
 use borrow.Author.Needs.{needs}
-use Rattle.facts.proofs.Laws.{kept-trans}
 use Rattle.checking.proofs.stepping.begin.Statement.{statement}
 use Rattle.checking.proofs.stepping.begin.Tie as tie
 
-clear-requires : tie.Need-clear-requires
-clear-requires c κs = search needs
+fill-requires : tie.Need-fill-requires
+fill-requires c κs = search needs
 
-add-all-requires : tie.Need-add-all-requires
-add-all-requires c κs = search needs
+fill-requires-2 : tie.Need-fill-requires-2
+fill-requires-2 c κs = search needs
 
 same-length : tie.Need-same-length
 same-length c = search needs
 
+same-length-2 : tie.Need-same-length-2
+same-length-2 c = search needs
+
 returns : tie.Need-returns
 returns c =
-    let added = c .before .before .add-all .ensures in
-    let cleared = c .before .before .before .before .before .before .clear .ensures in
-    record { facts = λ g. added .facts g ∙ rw (cleared .set g); kept = kept-trans (cleared .kept) (added .kept) }
+    let second = c .before .before in
+    (second .before .before .before .before .fill .ensures, second .fill2 .ensures)
 
 pub begin-spec : {M : Type 1} → statement M
-begin-spec = tie.close (tie.spec clear-requires add-all-requires same-length returns)
+begin-spec =
+    tie.close (tie.spec fill-requires fill-requires-2 same-length same-length-2 returns)

@@ -55,7 +55,7 @@ module _ (c : tie.Joined1 Inv-loop μ-loop) where
   fact = c .before .before .word-at .result
 
   abbrev Done : List ℕ → Type 0
-  Done state = Holds (loop .loop .state) state (λ g. gone persistent g (members (loop .loop .state) g) (eqb g fact))
+  Done state = Holds 512 (loop .loop .state) state (λ g. gone persistent g (members (loop .loop .state) g) (eqb g fact))
 
   done-here : Done (c .if1 .state)
   done-here =
@@ -65,14 +65,14 @@ module _ (c : tie.Joined1 Inv-loop μ-loop) where
       let removed = w .2 .ensures in
       let other = sym known ∙ not-true _ (w .0 .taken) in
       subst Done (sym (w .5)) (record {
-        facts = λ g.
+        set = λ g.
             removed .set g ∙ sym (takes (listed (words persistent)) fact other g (members (loop .loop .state) g));
         kept = removed .kept;
       }))
       (λ w.
       let stays = sym known ∙ not-false _ (w .0 .left) in
       subst Done (sym (w .1)) (record {
-        facts = λ g. sym (keeps (listed (words persistent)) fact stays g (members (loop .loop .state) g));
+        set = λ g. sym (keeps (listed (words persistent)) fact stays g (members (loop .loop .state) g));
         kept = kept-same _;
       }))
       (c .if1 .came)
@@ -105,8 +105,8 @@ loop-again c =
     let state = loop c .loop .state in
     let next = c .if1 .state in
     let one : (g : ℕ) → members next g ≡ without k g (members state g) (eqb g (word (drop at (list c)))) =
-    λ g. done-here c .facts g ∙ rw (← c .before .before .word-at .ensures) in
-    let done = done-one (without k) (remove-idle k) (remove-twice k) (list c) state next at (omega arith) one in
+    λ g. done-here c .set g ∙ rw (← c .before .before .word-at .ensures) in
+    let done = done-one 512 (without k) (remove-idle k) (remove-twice k) (list c) state next at (omega arith) one in
     record {
       within = omega arith;
       kept = kept-trans (loop c .loop .inv .kept) (done-here c .kept);
@@ -122,11 +122,8 @@ returns c =
     let start = c .before .before .before .before .before in
     let list = now (start .args .list) in
     let k = listed (words (now (start .args .persistent))) in
-    let done = done-all (without k) (remove-idle k) (remove-twice k) list (loop .state) (loop .at) (omega arith) in
-    record {
-      facts = λ g. sym (done g) ∙ loop .inv .facts g;
-      kept = loop .inv .kept;
-    }
+    let done = done-all 512 (without k) (remove-idle k) (remove-twice k) list (loop .state) (loop .at) (omega arith) in
+    record { set = λ g. sym (done g) ∙ loop .inv .facts g; kept = loop .inv .kept }
 
 pub remove-all-spec : {M : Type 1} → statement M
 remove-all-spec =

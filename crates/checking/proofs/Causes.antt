@@ -11,11 +11,10 @@ use Rattle.meaning.specs.Run.Condition.{positive, negative, unused}
 use Rattle.meaning.specs.Run.Ending.{attack, blocked, notMet}
 use Rattle.files.specs.Files.{Blamed, pairFault}
 use Rattle.files.specs.Answers.{blamedNumber}
-use Rattle.causes.specs.Causes.{Cause}
-use Rattle.causes.proofs.Causes.{cause-range}
 use Rattle.causes.proofs.Exact.{number-exactly}
 use Rattle.checking.specs.Verdict.{Lent, noSpace, stopNumber, numberOf, factIn, outcome}
-use Rattle.checking.specs.Promises.{Refusing, Stopping, endNumber, Given}
+use Rattle.checking.specs.Promises.{Stopping, endNumber, Given}
+use Rattle.causes.specs.Causes.{Refusing}
 
 -- the numbers of faults and of steps that can't fire, for sums and orders
 pub refusing-is : {k : ℕ} → Refusing k → (2 ≤ k) × (k ≤ 12) × (k ≡ 10 → ⊥) × (k ≡ 11 → ⊥)
@@ -29,10 +28,6 @@ stopping-is (inr r) = (omega arith, omega arith, λ e. omega arith, λ e. omega 
 pub refused-is : {k : ℕ} → (k ≡ 1) ⊎ Refusing k → (1 ≤ k) × (k ≤ 12) × (k ≡ 10 → ⊥) × (k ≡ 11 → ⊥)
 refused-is (inl e) = (omega arith, omega arith, λ q. omega arith, λ q. omega arith)
 refused-is (inr r) = let (low, high, a, b) = refusing-is r in (omega arith, high, a, b)
-
--- The number of a cause is that of a fault, and never 8.
-pub cause-refuses : {m t : List ℕ} {mark k : ℕ} {bytes : List ℕ} → Cause m t mark k bytes → Refusing k × (k ≡ 8 → ⊥)
-cause-refuses c = let (low, high, not-eight) = cause-range c in (inl (low, high), not-eight)
 
 -- A step that can't fire is 10 or 13.
 pub stop-range : (c : Condition) → Stopping (stopNumber c)

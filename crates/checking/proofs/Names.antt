@@ -1,12 +1,12 @@
 -- What document 02's wish 9 promises of a verdict (specs/Promises), proved: which names are made and left, when 13 is
 -- given, and that a model without names knows nothing of them.
-use Prim.Native.Nat.{ℕ}
+use Prim.Native.Nat.{ℕ, _<_}
 use mathlib.Core.Path.{_≡_, refl, sym, ap, subst, _∙_}
 use mathlib.Core.Logic.{_↔_, _⊎_, inl, inr, ⊎-elim}
 use mathlib.Core.Bool.{false}
 use mathlib.Core.List.{List}
 use lib.Dec.{T}
-use lib.ListN.{take}
+use lib.ListN.{take, getD}
 use lib.Seq.{take-length}
 use Rattle.sets.specs.Sets.{size, _∈_}
 use Rattle.sets.proofs.Laws.{is-false, listed-is}
@@ -15,15 +15,17 @@ use Rattle.meaning.specs.Run.{Outcome}
 use Rattle.meaning.specs.Run.Condition.{unused}
 use Rattle.meaning.specs.Run.Ending.{blocked}
 use Rattle.meaning.specs.Published.{Path}
-use Rattle.meaning.specs.Promises.{Makes, Nameless, IsOutcome, roundsOn}
+use Rattle.meaning.specs.Promises.{Makes, Nameless, roundsOn}
 use Rattle.meaning.specs.Promises.EndsSo.{blocked as so-blocked}
 use Rattle.meaning.proofs.Theorems.{closure-is-HC, is-run, start-not-made, made-once, names-left}
 use Rattle.meaning.proofs.Theorems.{nameless-empty, nameless-not-used}
 use Rattle.files.specs.Files.{modelOf, traceOf}
+use Rattle.files.proofs.Laws.{none-named, none-made}
+use Rattle.causes.proofs.Versions.{no-badname}
 use Rattle.checking.specs.Verdict.{Lent, namesIn, stopNumber, numberOf, factIn, factOf, outcome, ran, Checked}
 use Rattle.checking.specs.Promises.{verdict, WellFormed, FreshSteps, UsedAt}
 use Rattle.checking.specs.declared.Verdict.{Verdict}
-use Rattle.checking.proofs.Theorems.{first-not-met, left, ran-formed, values, kinds}
+use Rattle.checking.proofs.Theorems.{first-not-met, left, ran-formed, numbers, values, kinds}
 
 module _ {m t : List ℕ} {l : Lent} (w : WellFormed m t l) where
   -- The step that is named is the outcome's.
@@ -115,3 +117,10 @@ module _ (m t : List ℕ) (l : Lent) where
       let w = ran-formed m t l (inr (inr (inr e))) in
       nameless-not-used nameless (first-not-met w .0) _
       (ap (λ (o : Outcome). o .ending) (sym (stopped-is w (used-at w e))))
+
+  -- For a model of version 1 or 2 neither 12 nor 13 is ever given.
+  pub old-never : getD m 0 0 < 3 → (verdict m t l .number ≡ 12 → ⊥) × (verdict m t l .number ≡ 13 → ⊥)
+  old-never old = (
+    λ e. let (_, (_, _, c)) = numbers m t l .fault 12 (inr refl) .0 e in no-badname m old refl c,
+    never-used (record { start = none-named m old; rules = none-made m old }),
+  )

@@ -11,17 +11,17 @@ use Rattle.files.specs.Files.{Blamed, modelOf, traceOf, pairFault}
 use Rattle.files.specs.Files.Blamed.{model, trace}
 use Rattle.files.specs.Answers.{blamedNumber, blamedPart, bytesAt, partOf, entryPart, goalPart}
 use Rattle.causes.specs.Causes.{Cause}
-use Rattle.causes.proofs.Causes.{FoundIn, pair-cause}
+use Rattle.causes.proofs.Causes.{FoundIn, pair-cause, cause-range}
 use Rattle.causes.proofs.Named.{step-part, goal-named}
 use Rattle.checking.specs.Verdict.{refused, blamed, numberOf, partFor, ran}
 use Rattle.checking.specs.Promises.{Stopping, AtFault, InFile}
 use Rattle.checking.specs.Promises.InFile.{inModel, inTrace}
 use Rattle.checking.specs.declared.Verdict.{Verdict}
-use Rattle.checking.proofs.Causes.{refusing-is, stopping-is, cause-refuses, stop-range}
+use Rattle.checking.proofs.Causes.{refusing-is, stopping-is, stop-range}
 
 -- The bytes of a cause are those at fault.
 by-cause : {m t : List ℕ} {v : Verdict} → Cause m t (v .part .mark) (v .number) (partOf m t (v .part)) → AtFault m t v
-by-cause c = let (r, _) = cause-refuses c in record {
+by-cause c = let (r, _) = cause-range c in record {
   empty = λ h. absurd (omega (arith, refusing-is r));
   cause = λ _. c;
   entry = λ h. absurd (omega (arith, refusing-is r, stopping-is h));

@@ -28,18 +28,19 @@ use Rattle.files.specs.Answers.{blamedNumber}
 use Rattle.files.proofs.Laws.{initial-below, clauses-bound, clause-below, rule-below}
 use Rattle.files.proofs.Traces.{fine-pair, pair-named}
 use Rattle.causes.specs.Causes.{RightPair}
-use Rattle.causes.proofs.Causes.{pair-cause}
+use Rattle.causes.proofs.Causes.{pair-cause, cause-range}
 use Rattle.causes.proofs.Exact.{right-exactly}
 use Rattle.closing.proofs.Laws.{filled-unique}
 use Rattle.checking.specs.Verdict.{Lent, noSpace, stopNumber, numberOf, factOf, kindOf, roundOf, refused, blamed, ran, outcome}
 use Rattle.checking.specs.Verdict.{refusal, verdictOf, Left, Buffers}
 use Rattle.checking.specs.Verdict.{Checked}
-use Rattle.checking.specs.Promises.{verdict, WellFormed, Refusing, Stopping, endNumber, Given, AtFault, Values, Kinds, InFile}
+use Rattle.checking.specs.Promises.{verdict, WellFormed, Stopping, endNumber, Given, AtFault, Values, Kinds, InFile}
+use Rattle.causes.specs.Causes.{Refusing}
 use Rattle.checking.specs.Promises.InFile.{inModel}
 use Rattle.checking.specs.declared.Verdict.{Verdict}
 use Rattle.checking.proofs.Refusals.{refuses-none, by-cause}
 use Rattle.checking.proofs.Causes.{end-range, end-attack, ended-apart, given-room, given-fault, given-run}
-use Rattle.checking.proofs.Causes.{refusing-is, refused-is, stopping-is, stop-range, stop-used, cause-refuses}
+use Rattle.checking.proofs.Causes.{refusing-is, refused-is, stopping-is, stop-range, stop-used}
 use Rattle.checking.proofs.Naming.{in-closure, no-name, no-kind, named}
 use Rattle.checking.proofs.Parts.{fault-at, run-at, fault-in, run-in}
 
@@ -154,8 +155,8 @@ module _ {m t : List ℕ} {l : Lent} (w : WellFormed m t l) where
 pub fault-range : (m t : List ℕ) (b : Blamed) → pairFault m t ≡ some b
     → Refusing (blamedNumber b) × (blamedNumber b ≡ 8 → ⊥)
 unfolding blamedNumber
-fault-range m t (model f) e = cause-refuses (pair-cause m t (model f) e .cause)
-fault-range m t (trace f) e = cause-refuses (pair-cause m t (trace f) e .cause)
+fault-range m t (model f) e = cause-range (pair-cause m t (model f) e .cause)
+fault-range m t (trace f) e = cause-range (pair-cause m t (trace f) e .cause)
 
 -- The number of a run's outcome is 0, 11, 10 or 13.
 pub outcome-range : (m t : List ℕ) → (endNumber m t ≡ 0) ⊎ (endNumber m t ≡ 11) ⊎ Stopping (endNumber m t)
@@ -184,7 +185,7 @@ module _ (m t : List ℕ) (l : Lent) where
   pub never-eight : verdict m t l .number ≡ 8 → ⊥
   never-eight e =
       let (_, (_, _, cause)) = numbers .fault 8 (inl (omega arith)) .0 e in
-      cause-refuses cause .1 refl
+      cause-range cause .1 refl
 
   -- Whatever the files and buffers, the verdict is 0 exactly if the pair is well-formed and the trace a true attack.
   pub accepted-exactly : (verdict m t l .number ≡ 0) ↔ (WellFormed m t l × TrueAttack (modelOf m) (traceOf t))

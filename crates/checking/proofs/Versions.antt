@@ -1,5 +1,5 @@
--- For a model of version 1 nothing changed: a model of the same lists without persistent facts has the same verdicts,
--- and leaves the same in what is lent.
+-- For models of versions 1 and 2 nothing changed: a model of the same lists without names has the same verdicts, and
+-- leaves the same in what is lent.
 use Prim.Native.Nat.{ℕ}
 use mathlib.Core.Path.{_≡_, refl, sym, ap, subst, _∙_}
 use mathlib.Core.List.{List}
@@ -8,7 +8,7 @@ use Rattle.meaning.specs.Model.{Model}
 use Rattle.meaning.specs.Rounds.{roundNumber}
 use Rattle.meaning.specs.Run.{Outcome, run}
 use Rattle.files.specs.Files.{modelOf, traceOf, modelFault}
-use Rattle.files.proofs.Laws.{none-persistent, none-names}
+use Rattle.files.proofs.Laws.{none-named}
 use Rattle.causes.proofs.Alike.{same-fault}
 use Rattle.checking.specs.Verdict.{Lent, numberOf, factOf, kindOf, roundOf, outcome, ran, refusal}
 use Rattle.checking.specs.Verdict.{verdictOf, Left, Buffers, Checked}
@@ -21,8 +21,8 @@ same-model : (one two : List ℕ) → SameLists one two → modelOf one ≡ mode
 same-model one two same = λ i. record {
   F = same .F i;
   initial = same .initial i;
-  persistent = (none-persistent one (same .version) ∙ sym (same .none-persistent)) i;
-  names = (none-names one (same .version) ∙ sym (same .none-names)) i;
+  persistent = same .persistent i;
+  names = (none-named one (same .version) ∙ sym (same .none-names)) i;
   clauses = same .clauses i;
   rules = same .rules i;
   goals = same .goals i;

@@ -18,7 +18,7 @@ use Rattle.records.specs.Records.{records}
 use Rattle.sections.specs.declared.Role.the-variants.{Goals}
 use Rattle.files.specs.Files.{sectionOf, modelOf, traceOf, pairFault}
 use Rattle.files.specs.Answers.{partOf}
-use Rattle.causes.specs.Causes.{Cause}
+use Rattle.causes.specs.Causes.{Cause, Refusing}
 use Rattle.files.specs.declared.Part.{Part}
 use Rattle.checking.specs.Verdict.{Lent, noSpace, outcome, numberOf, refusal, verdictOf}
 use Rattle.checking.specs.declared.Verdict.{Verdict}
@@ -59,11 +59,6 @@ shown v = record {
 abbrev pub CauseOf : List ℕ → List ℕ → ℕ → Type 0
 CauseOf m t k = (mark : ℕ) × (bytes : List ℕ) × Cause m t mark k bytes
 
--- the numbers of faults of the files, 2 to 9 and those that a later request "adds for the model": 12 BADNAME (document
--- 02, wish 9)
-abbrev pub Refusing : ℕ → Type 0
-Refusing k = ((2 ≤ k) × (k ≤ 9)) ⊎ (k ≡ 12)
-
 -- the numbers of a step that can't fire: 10, and 13, which is "all else as for BLOCKED"
 abbrev pub Stopping : ℕ → Type 0
 Stopping k = (k ≡ 10) ⊎ (k ≡ 13)
@@ -95,7 +90,7 @@ pub record AtFault (m t : List ℕ) (v : Verdict) : Type 0 where
 -- ---- step, fact, rounds, held
 
 -- "step: for 10 the number of the blocked step from 0; for 0 and 11 the count of steps; otherwise 0", "fact: ..
--- otherwise 65,535", "rounds .. 0 for 1 to 9", "held .. 0 for 1 to 9"; 12 "is as 6 in all else", 13 as 10
+-- otherwise 65,535", "rounds .. 0 for 1 to 9", "held .. 0 for 1 to 9"; 12 is as these, 13 "all else as for BLOCKED"
 pub record Values (t : List ℕ) (v : Verdict) : Type 0 where
   pub refused : (v .number ≡ 1) ⊎ Refusing (v .number) → (v .step ≡ 0) × (v .rounds ≡ 0) × (v .held ≡ 0)
   pub ended : (v .number ≡ 0) ⊎ (v .number ≡ 11) → v .step ≡ length (traceOf t .steps)
@@ -158,16 +153,16 @@ pub data InFile (m t : List ℕ) (p : Part) : Type 0 where
   inModel : p .mark ≡ 0 → p .start + p .size ≤ length m → InFile m t p
   inTrace : p .mark ≡ 1 → p .start + p .size ≤ length t → InFile m t p
 
--- ---- versions (document 02, wish 2)
+-- ---- versions (document 02, wishes 2 and 9)
 
--- "a persistent set, empty for version 1": a model of version 1 and one without persistent facts and names, the same
--- lists
+-- "Versions 1 and 2 have none.": a model of version 1 or 2, and one without names in use at the start, the same lists.
+-- "a persistent set, empty for version 1": then both have no persistent facts.
 pub record SameLists (one two : List ℕ) : Type 0 where
-  pub version : getD one 0 0 ≡ 1
-  pub none-persistent : modelOf two .persistent ≡ []
+  pub version : getD one 0 0 < 3
   pub none-names : modelOf two .names ≡ []
   pub F : modelOf one .F ≡ modelOf two .F
   pub initial : modelOf one .initial ≡ modelOf two .initial
+  pub persistent : modelOf one .persistent ≡ modelOf two .persistent
   pub clauses : modelOf one .clauses ≡ modelOf two .clauses
   pub rules : modelOf one .rules ≡ modelOf two .rules
   pub goals : modelOf one .goals ≡ modelOf two .goals

@@ -70,8 +70,8 @@ fn search(
         }
         rounds += closing::close_judged(model, state, table);
         let rule = held::record(model, Role::Rules, records::word_at(entries, 2 + 2 * fired));
-        let p = lists::list_of(rule, Kind::Rule, 0);
-        let n = lists::list_of(rule, Kind::Rule, 1);
+        let p = held::rule_list(model, rule, 0);
+        let n = held::rule_list(model, rule, 1);
         let made = held::made(model, rule);
         let count = conditions::count(p, n, made);
         let mut i = 0;
@@ -82,7 +82,7 @@ fn search(
             }
             i += 1;
         }
-        let a = lists::list_of(rule, Kind::Rule, 2);
+        let a = held::rule_list(model, rule, 2);
         stepping::apply(p, a, persistent, made, state, names);
         fired += 1;
     };

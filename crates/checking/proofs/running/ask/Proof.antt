@@ -52,9 +52,9 @@ module _ (c : tie.After-record) where
       (getD (records (sectionOf (now (start (c .before) .args .model)) Goals)) (c .before .word-at .result) []) j bytes
   list-is j {bytes} l = subst (λ (r : List ℕ). ListBytes kind.Goal r j bytes) (c .record .ensures) l
 
-  known-list : (j : ℕ) {bytes : List ℕ} → ListBytes kind.Goal (now (c .record .result)) j bytes → Known bytes
-  known-list j {bytes} l =
-      goal-known _ (pair-shape _ _ (start (c .before) .pre .0)) (known-goal (c .before)) j bytes (list-is j l)
+  known-list : (j : ℕ) {bytes : List ℕ} → j < 3 → ListBytes kind.Goal (now (c .record .result)) j bytes → Known bytes
+  known-list j {bytes} few l =
+      goal-known _ (pair-shape _ _ (start (c .before) .pre .0)) (known-goal (c .before)) j few bytes (list-is j l)
 
 -- the first unmet condition of the attack state, as the table shows
 unmet-is : (c : tie.After-first-unmet)
@@ -99,8 +99,8 @@ slice-aggregate-first-unmet c = search needs
 first-unmet-requires : tie.Need-first-unmet-requires
 first-unmet-requires c κs =
     let l = c .before in (
-      known-list (l .before .before) 0 (l .before .list-of .ensures),
-      known-list (l .before .before) 1 (l .list-of2 .ensures),
+      known-list (l .before .before) 0 (lit< tt) (l .before .list-of .ensures),
+      known-list (l .before .before) 1 (lit< tt) (l .list-of2 .ensures),
       start (l .before .before .before) .pre .1,
     )
 

@@ -17,10 +17,11 @@ use Rattle.meaning.specs.Run.{Condition, unmet, unmetOf}
 use Rattle.facts.specs.Facts.{members}
 use Rattle.records.specs.Words.{word, words}
 use Rattle.records.specs.Records.{records}
-use Rattle.records.specs.declared.Kind.the-variants as kind
+use Rattle.records.specs.declared.Kind.{Kind}
 use Rattle.records.specs.Records.{listCount}
 use Rattle.records.proofs.Places.{record-in}
 use Rattle.lists.specs.Lists.{Cut, ListBytes}
+use Rattle.sections.specs.Sections.{ruleKind}
 use Rattle.sections.specs.declared.Role.the-variants.{Rules}
 use Rattle.files.specs.Files.{pairFault, shapeFault, ruleIn, modelOf, traceOf, sectionOf}
 use Rattle.files.specs.Known.{Known}
@@ -139,36 +140,41 @@ module _ (c : tie.After-word-at Inv-loop μ-loop Inv-search μ-search) where
       (pair-step-known (model at-rule) (trace at-rule) (fine at-rule) (at-rule .search .fired) (step-there closing-of))
 
 module _ (c : tie.After-record Inv-loop μ-loop Inv-search μ-search) where
-  cut-of : Cut kind.Rule (now (c .record .result))
+  -- what the model's rules are
+  abbrev kind-of : Kind
+  kind-of = ruleKind (getD (model (at-rule (c .before))) 0 0)
+
+  cut-of : Cut kind-of (now (c .record .result))
   cut-of = rw (c .record .ensures) (rule-record _ (shape (at-rule (c .before))) (known-rule (c .before)))
 
   -- a list of the rule's record, as a list of the model's rule
-  list-is : (j : ℕ) {bytes : List ℕ} → ListBytes kind.Rule (now (c .record .result)) j bytes
-      → ListBytes kind.Rule
+  list-is : (j : ℕ) {bytes : List ℕ} → ListBytes kind-of (now (c .record .result)) j bytes
+      → ListBytes kind-of
       (getD (records (sectionOf (model (at-rule (c .before))) Rules)) (c .before .word-at .result) []) j bytes
-  list-is j {bytes} l = subst (λ (r : List ℕ). ListBytes kind.Rule r j bytes) (c .record .ensures) l
+  list-is j {bytes} l = subst (λ (r : List ℕ). ListBytes kind-of r j bytes) (c .record .ensures) l
 
-  known-list : (j : ℕ) {bytes : List ℕ} → ListBytes kind.Rule (now (c .record .result)) j bytes → Known bytes
-  known-list j {bytes} l = rule-known _ (shape (at-rule (c .before))) (known-rule (c .before)) j bytes (list-is j l)
+  known-list : (j : ℕ) {bytes : List ℕ} → j < 3 → ListBytes kind-of (now (c .record .result)) j bytes → Known bytes
+  known-list j {bytes} few l =
+      rule-known _ (shape (at-rule (c .before))) (known-rule (c .before)) j few bytes (list-is j l)
 
 module _ (c : tie.After-made Inv-loop μ-loop Inv-search μ-search) where
   abbrev record-of : tie.After-record Inv-loop μ-loop Inv-search μ-search
   record-of = c .before .before .before
 
   abbrev P : List ℕ
-  P = now (c .before .before .list-of .result)
+  P = now (c .before .before .rule-list .result)
 
   abbrev N : List ℕ
-  N = now (c .before .list-of2 .result)
+  N = now (c .before .rule-list2 .result)
 
   abbrev made : List ℕ
   made = now (c .made .result)
 
   known-P : Known P
-  known-P = known-list record-of 0 (c .before .before .list-of .ensures)
+  known-P = known-list record-of 0 (lit< tt) (c .before .before .rule-list .ensures)
 
   known-N : Known N
-  known-N = known-list record-of 1 (c .before .list-of2 .ensures)
+  known-N = known-list record-of 1 (lit< tt) (c .before .rule-list2 .ensures)
 
   table-long : 4096 ≤ length (table-of (closing-of (record-of .before)))
   table-long =
@@ -186,12 +192,12 @@ module _ (c : tie.In-loop Inv-loop μ-loop Inv-search μ-search) where
       omega (arith, c .before .before .count .ensures, c .loop-test .taken) in
       (there, rw (asks-length (P lists) (N lists) (made lists)) there)
 
-module _ (c : tie.After-list-of3 Inv-loop μ-loop Inv-search μ-search) where
+module _ (c : tie.After-rule-list3 Inv-loop μ-loop Inv-search μ-search) where
   abbrev lists-3 : tie.After-made Inv-loop μ-loop Inv-search μ-search
   lists-3 = c .before .before .before .before
 
-  known-A : Known (now (c .list-of3 .result))
-  known-A = known-list (record-of lists-3) 2 (c .list-of3 .ensures)
+  known-A : Known (now (c .rule-list3 .result))
+  known-A = known-list (record-of lists-3) 2 (lit< tt) (c .rule-list3 .ensures)
 
 -- the conditions at hand are those of the step's rule, in the closure that the table shows and the names in use
 module _ (c : tie.After-made Inv-loop μ-loop Inv-search μ-search) where
@@ -208,10 +214,10 @@ module _ (c : tie.After-made Inv-loop μ-loop Inv-search μ-search) where
   rule-is which = ap (λ k. which (ruleOf (modelOf (model here)) k)) (number-is word-of)
 
   P-is : words (P c) ≡ ruleOf (modelOf (model here)) (getD (ks here) (here .search .fired) 0) .P
-  P-is = rule-P _ _ (list-is (record-of c) 0 (c .before .before .list-of .ensures)) ∙ rule-is (λ r. r .P)
+  P-is = rule-P _ _ (list-is (record-of c) 0 (c .before .before .rule-list .ensures)) ∙ rule-is (λ r. r .P)
 
   N-is : words (N c) ≡ ruleOf (modelOf (model here)) (getD (ks here) (here .search .fired) 0) .N
-  N-is = rule-N _ _ (list-is (record-of c) 1 (c .before .list-of2 .ensures)) ∙ rule-is (λ r. r .N)
+  N-is = rule-N _ _ (list-is (record-of c) 1 (c .before .rule-list2 .ensures)) ∙ rule-is (λ r. r .N)
 
   made-is : words (made c) ≡ ruleOf (modelOf (model here)) (getD (ks here) (here .search .fired) 0) .names
   made-is =
@@ -272,13 +278,13 @@ word-at-requires c κs =
 record-requires : tie.Need-record-requires Inv-loop μ-loop Inv-search μ-search
 record-requires c κs = (shape (at-rule c), rule-there _ (known-rule c))
 
-list-of-requires : tie.Need-list-of-requires Inv-loop μ-loop Inv-search μ-search
+rule-list-requires : tie.Need-rule-list-requires Inv-loop μ-loop Inv-search μ-search
 unfolding listCount
-list-of-requires c κs = (cut-of c, lit< tt)
+rule-list-requires c κs = (cut-of c, lit< tt)
 
-list-of-requires-2 : tie.Need-list-of-requires-2 Inv-loop μ-loop Inv-search μ-search
+rule-list-requires-2 : tie.Need-rule-list-requires-2 Inv-loop μ-loop Inv-search μ-search
 unfolding listCount
-list-of-requires-2 c κs = (cut-of (c .before), lit< tt)
+rule-list-requires-2 c κs = (cut-of (c .before), lit< tt)
 
 made-requires : tie.Need-made-requires Inv-loop μ-loop Inv-search μ-search
 made-requires c κs =
@@ -316,9 +322,9 @@ loop-again c =
     looking-next _ _ _ (l .before .loop .inv) (below l .1)
     (rw nth at (sym (c .before .meets .ensures) ∙ not-false _ (c .if2 .left)))
 
-list-of-requires-3 : tie.Need-list-of-requires-3 Inv-loop μ-loop Inv-search μ-search
+rule-list-requires-3 : tie.Need-rule-list-requires-3 Inv-loop μ-loop Inv-search μ-search
 unfolding listCount
-list-of-requires-3 c κs = (cut-of (record-of (c .before .before .before)), lit< tt)
+rule-list-requires-3 c κs = (cut-of (record-of (c .before .before .before)), lit< tt)
 
 apply-requires : tie.Need-apply-requires Inv-loop μ-loop Inv-search μ-search
 apply-requires c κs =
@@ -354,7 +360,7 @@ search-again c =
     (omega (arith, done .before .before .count .ensures, done .loop-test .left))) in
     on-fired (model (here l)) (trace (here l)) (on (here l)) (closed k) refl (step-there k) (asked-is l none none-left)
     (few-more k) (P-is l)
-    (rule-A _ _ (list-is (record-of l) 2 (a .list-of3 .ensures)) ∙ rule-is l (λ r. r .A)) (made-is l)
+    (rule-A _ _ (list-is (record-of l) 2 (a .rule-list3 .ensures)) ∙ rule-is l (λ r. r .A)) (made-is l)
     (persistent-in _ (here l .before .section .ensures))
     (applied .apply .ensures .0) (applied .apply .ensures .1)
 
@@ -413,8 +419,8 @@ search-spec =
     add-word-at
     word-at-requires
     record-requires
-    list-of-requires
-    list-of-requires-2
+    rule-list-requires
+    rule-list-requires-2
     made-requires
     count-requires
     loop-holds
@@ -423,7 +429,7 @@ search-spec =
     add-i
     loop-less
     loop-again
-    list-of-requires-3
+    rule-list-requires-3
     apply-requires
     add-fired
     search-less

@@ -81,11 +81,11 @@ test_long() {
 
 test_version() {
     told VERSION 'model before byte 0' \
-        'the file is empty: a model starts with the version, 1 or 2' ''
+        'the file is empty: a model starts with the version, 1, 2 or 3' ''
     told VERSION 'model byte 0 (07)' \
-        'the version: a model starts with 01 or 02' 07
-    told VERSION 'model byte 0 (03)' \
-        'the version: a model starts with 01 or 02' "03${fine:2}"
+        'the version: a model starts with 01, 02 or 03' 07
+    told VERSION 'model byte 0 (04)' \
+        'the version: a model starts with 01, 02 or 03' "04${fine:2}"
     told VERSION 'trace before byte 0' \
         'the file is empty: a trace starts with the version, 1' "$fine" ''
     told VERSION 'trace byte 0 (02)' \
@@ -232,6 +232,74 @@ test_persistent() {
     has 'or not' ', 98, 99' "$(sed -n 2p <<<"$out")"
 }
 
+# Version 3, the desk model without persistent facts: the section after these has its length at 21 and its bytes from
+# 25 on; where it is empty the rules' section has its length at 45 and its records from 49 on.
+head_3="03${head_part:2} 00000000"
+rules_3='0000002A 000E 0001 0005 0001 0003 0001 0003 0000
+    000A 0001 0000 0000 0000 0000  000C 0001 0001 0000 0001 0001 0000'
+
+test_names_in_use() {
+    local rest="$clauses $rules_3 $goals" section='section names in use'
+    told SHAPE 'model before byte 21' \
+        "$section: its length of 4 bytes was expected, the file has 0 bytes more" "$head_3"
+    told SHAPE 'model bytes 21 to 23 (00 00 00)' \
+        "$section: its length of 4 bytes was expected, the file has 3 bytes more" "$head_3 000000"
+    told SHAPE 'model bytes 21 to 28 (00 00 01 00 00 01 00 05)' \
+        "$section: its length says 256 bytes, the file has 4 bytes more" "$head_3 00000100 0001 0005"
+    told SHAPE 'model bytes 25 to 27 (00 01 00)' \
+        "$section: it has 3 bytes, 2 for each name were expected" "$head_3 00000003 000100 $rest"
+    told BADNAME 'model bytes 25 to 28 (00 01 04 00)' \
+        "$section: name 1024 stands in its list, and a name is at most 1023" "$head_3 00000004 0001 0400 $rest"
+    told BADNAME 'model bytes 25 to 28 (ff ff 00 01)' \
+        "$section: name 65535 stands in its list, and a name is at most 1023" "$head_3 00000004 FFFF 0001 $rest"
+    told ORDER 'model bytes 25 to 28 (00 05 00 01)' \
+        "$section: in its list name 5 stands before name 1: names ascend" "$head_3 00000004 0005 0001 $rest"
+    # An empty one is fine; what comes after it is told by its own name.
+    told SHAPE 'model before byte 25' \
+        'section clauses: its length of 4 bytes was expected, the file has 0 bytes more' "$head_3 00000000"
+    # Version 3 without its section: the clauses' bytes are taken for names.
+    told ORDER 'model bytes 25 to 40 (00 06 00 02 00 00 00 01 00 06 00 05 00 02 00 04)' \
+        "$section: in its list name 6 stands before name 2: names ascend" "$head_3 $rest"
+    # A name has nothing to do with F.
+    bytes "$head_3 00000004 0006 03FF $rest" >"$tmp/m.model"
+    try "$tmp/m.model" "$root/samples/A.trace"
+    same 'names from F up to 1023 are fine' 'ATTACK step 1 fact none rounds 4 held 4 kind none round none' "$out$err"
+    try "$desk" "$root/samples/table2-fresh/fresh.model"
+    has 'a model of version 3 for a trace' \
+        'byte 0 (03), the version: a trace starts with 01 (it was given a model for the trace)' "$err"
+}
+
+test_names_made() {
+    local before="$head_3 00000000 $clauses" rule='section rules, rule 0'
+    told SHAPE 'model bytes 49 to 56 (00 06 00 00 00 00 00 00)' \
+        "$rule: it ends where the 2 bytes of the count of its list of names were expected" \
+        "$before 00000008 0006 0000 0000 0000 $goals"
+    told SHAPE 'model bytes 49 to 60 (00 0a 00 00 00 00 00 00 00 05 00 01)' \
+        "$rule: the count of its list of names says 5 names, it has 2 bytes more" \
+        "$before 0000000C 000A 0000 0000 0000 0005 0001 $goals"
+    told SHAPE 'model bytes 49 to 59 (00 09 00 00 00 00 00 00 00 00 01)' \
+        "$rule: its lists end 1 byte before it does" "$before 0000000B 0009 0000 0000 0000 0000 01 $goals"
+    told COUNT 'model bytes 49 to 124 (00 4a 00 00 00 00 00 00 00 21 00 00 00 01 00 02 ..)' \
+        "$rule: its list of names has 33 names, and at most 32 are allowed" \
+        "$before 0000004C 004A 0000 0000 0000 0021 $(count_up 33) $goals"
+    told BADNAME 'model bytes 49 to 62 (00 0c 00 00 00 00 00 00 00 02 00 01 04 00)' \
+        "$rule: name 1024 stands in its list of names, and a name is at most 1023" \
+        "$before 0000000E 000C 0000 0000 0000 0002 0001 0400 $goals"
+    told ORDER 'model bytes 49 to 62 (00 0c 00 00 00 00 00 00 00 02 00 05 00 05)' \
+        "$rule: in its list of names name 5 stands before name 5: names ascend" \
+        "$before 0000000E 000C 0000 0000 0000 0002 0005 0005 $goals"
+    # One record with all three: FACT comes before BADNAME, and BADNAME before ORDER.
+    told FACT 'model bytes 49 to 64 (00 0e 00 02 00 06 00 00 00 00 00 00 00 01 04 00)' \
+        "$rule: fact 6 stands in its P, and the model has facts 0 to 5" \
+        "$before 00000010 000E 0002 0006 0000 0000 0000 0001 0400 $goals"
+    told BADNAME 'model bytes 49 to 64 (00 0e 00 02 00 05 00 00 00 00 00 00 00 01 04 00)' \
+        "$rule: name 1024 stands in its list of names, and a name is at most 1023" \
+        "$before 00000010 000E 0002 0005 0000 0000 0000 0001 0400 $goals"
+    # Four lists before version 3.
+    told SHAPE 'model bytes 41 to 50 (00 08 00 00 00 00 00 00 00 00)' \
+        "$rule: its lists end 2 bytes before it does" "$head_part $clauses 0000000A 0008 0000 0000 0000 0000 $goals"
+}
+
 test_usage() {
     try
     says 'no words' 2 'usage: cantivorex MODEL TRACE'
@@ -286,6 +354,11 @@ test_exit_verdict() {
         try --exit-verdict "$desk" "$root/samples/${case:0:1}.trace"
         same "the verdict as exit, case ${case:0:1}" "${case:1}" "$status"
     done
+    try --exit-verdict "$root"/samples/table2-fresh/{fresh.model,not-fresh.trace}
+    same 'the verdict as exit, USED' 13 "$status"
+    bytes "$head_3 00000002 0400" >"$tmp/m.model"
+    try --exit-verdict "$tmp/m.model" "$root/samples/A.trace"
+    same 'the verdict as exit, BADNAME' 12 "$status"
     try --exit-verdict "$desk" "$tmp/nowhere"
     same 'a missing file is no verdict' 102 "$status"
     "$command" --exit-verdict "$desk" "$root/samples/A.trace" >/dev/full 2>/dev/null
@@ -497,14 +570,127 @@ NOATTACK: all 2 steps fire, but goal 0 ben may still sign is not met in state 2:
 NOATTACK step 2 fact 1 rounds 2 held 0 kind positive round none" "$out"
 }
 
-# unfit LABEL REASON LINES: a names file that doesn't fit is told, and the numbers stand alone.
+# Two facts, name 5 in use at first. Rule 0 makes 7 and 1023, rule 1 makes 5, rule 2 nothing; rule 3 needs fact 1, which
+# isn't there, and makes 5 and 7.
+two_facts="03 00000002 0002  00000002 0000  00000000  00000002 0005  00000000  0000003A
+    0010 0001 0000 0000 0001 0000 0002 0007 03FF  000C 0000 0000 0001 0001 0001 0005  0008 0000 0000 0000 0000
+    000E 0001 0001 0000 0000 0002 0005 0007  00000008 0006 0001 0000 0000"
+
+# after STEPS LINE: the verdict on two_facts after some steps.
+after() {
+    local steps=$(tr -d ' ' <<<"$1")
+    bytes "01 $(printf '%08x' $((2 + ${#steps} / 2))) 0000 $steps" >"$tmp/t.trace"
+    try "$tmp/f.model" "$tmp/t.trace"
+    same "two facts, after $1" "$2" "$out"
+}
+
+test_fresh_names() {
+    bytes "$two_facts" >"$tmp/f.model"
+    printf 'fact 0 open\nfact 1 shut\nname 7 nonce1\nname 5 old\n' >"$tmp/f.names"
+    try show "$tmp/f.model"
+    same 'version 3 as text' 'facts: 2
+  0 open
+  1 shut
+initial facts: 0 open
+persistent facts: none
+names in use at the start: 5 old
+clauses: 0
+rules: 4
+  rule 0: needs 0 open; adds 0 open; makes 7 nonce1, 1023
+  rule 1: adds 1 shut; makes 5 old
+  rule 2: no conditions
+  rule 3: needs 1 shut; makes 5 old, 7 nonce1
+attack states: 1
+  goal 0: needs 0 open' "$out$err"
+    after 0000 'ATTACK step 1 fact none rounds 0 held 1 kind none round none'
+    after 0001 'USED step 0 fact 5 rounds 0 held 1 kind none round none'
+    after 0003 'BLOCKED step 0 fact 1 rounds 0 held 1 kind positive round none'
+    after '0000 0002 0000' 'USED step 2 fact 7 rounds 0 held 1 kind none round none'
+    same 'USED has no second line' '' "$err"
+    try count "$tmp/f.model" "$tmp/t.trace"
+    same 'counting version 3' "model '$tmp/f.model': 2 facts, 0 clauses, 4 rules, 1 attack state
+persistent facts: none
+state 0, the initial one: 1 stored, 0 reached by closing in 0 rounds, 1 not reached, 1 name in use
+  stored:      0 open
+  reached:     none
+  not reached: 1 shut
+  in use:      5 old
+state 1, after step 0, rule 0: 1 stored, 0 reached by closing in 0 rounds, 1 not reached, 3 names in use
+  stored:      0 open
+  reached:     none
+  not reached: 1 shut
+  made:        7 nonce1, 1023
+  in use:      5 old, 7 nonce1, 1023
+state 2, after step 1, rule 2: 1 stored, 0 reached by closing in 0 rounds, 1 not reached, 3 names in use
+  stored:      0 open
+  reached:     none
+  not reached: 1 shut
+  made:        none
+  in use:      5 old, 7 nonce1, 1023
+USED: step 2, rule 0, can't fire: name 7 nonce1 is in use
+USED step 2 fact 7 rounds 0 held 1 kind none round none" "$out$err"
+    try count "$root/samples/mandate/persistent.model"
+    same 'version 2 has no names to show' '' "$(grep -E ' in use|made:' <<<"$out")"
+    bytes "03 00000002 0000 00000000 00000000 000000C8 $(count_up 100) 00000000 00000000 00000006 0004 0000 0000" \
+        >"$tmp/f.model"
+    rm "$tmp/f.names"
+    try show "$tmp/f.model"
+    has 'all names in use are shown' ', 98, 99' "$(grep '^names in use' <<<"$out")"
+    try count "$tmp/f.model"
+    has 'names in use are counted' ', 100 names in use' "$out"
+    has 'a long list of names is cut' '22, 23 and 76 more' "$(grep in.use: <<<"$out")"
+    try count --all "$tmp/f.model"
+    has 'or not' ', 98, 99' "$(grep in.use: <<<"$out")"
+}
+
+# Document 003's Table 2 with names: a group is made once, whoever makes it, and leaving it doesn't make it new again.
+test_table2_fresh() {
+    local folder=$root/samples/table2-fresh lines
+    lines="NOATTACK step 1 fact 20 rounds 2 held 4 kind positive round none          a-moves
+USED step 2 fact 2 rounds 3 held 4 kind none round none                   a-moves-back
+ATTACK step 2 fact none rounds 3 held 4 kind none round none              a-moves-twice
+USED step 1 fact 2 rounds 2 held 4 kind none round none                   b-makes-it-too
+USED step 0 fact 1 rounds 1 held 4 kind none round none                   not-fresh"
+    local count="5 traces with $folder/fresh.model: ATTACK 1, NOATTACK 1, USED 3; 0 not read"
+    try night "$folder" --model "$folder/fresh.model"
+    same 'the verdicts on Table 2 with names' "$lines"$'\n'"$count" "$out"
+    same 'USED is no refusal: exit' 0 "$status"
+    try night "$folder" --model "$folder/fresh.model" --limit 60
+    same 'and within a limit' "$lines" "$(head -n 5 <<<"$out")"
+    try night "$folder" --model "$folder/fresh.model" --only used
+    same 'those alone whose name is in use' "$(grep ^USED <<<"$lines")"$'\n'"$count" "$out"
+    try night "$folder" --model "$folder/fresh.model" --tsv
+    same 'a row for a name in use' 'b-makes-it-too USED 1 2 2 4 none none trace 9 2' \
+        "$(grep ^b- <<<"$out" | cut -f 1-11 | tr '\t' ' ')"
+    try show "$folder/fresh.model"
+    has 'the groups in use at the start' 'names in use at the start: 0 g1, 1 g2' "$out"
+    has 'the group that a move makes' "rule 1 move(a,g1,g3): needs 0 mem(a,g1); not 16 deputy(a,a), 17 deputy(a,b); $(
+        )adds 2 mem(a,g3); makes 2 g3" "$out"
+    try count "$folder/fresh.model" "$folder/a-moves-back.trace"
+    same 'the groups that a makes' '  made:        2 g3
+  made:        3 g4' "$(grep made: <<<"$out")"
+    same 'a group that a has left' "USED: step 2, rule 11 move(a,g4,g3), can't fire: name 2 g3 is in use" \
+        "$(tail -n 2 <<<"$out" | head -n 1)"
+    try count "$folder/fresh.model" "$folder/not-fresh.trace"
+    has 'a group that was there at first' "USED: step 0, rule 0 move(a,g1,g2), can't fire: name 1 g2 is in use" "$out"
+    mkdir "$tmp/bad"
+    { head -c 27 "$folder/fresh.model"; bytes 0400; tail -c +30 "$folder/fresh.model"; } >"$tmp/bad/one.model"
+    cp "$folder/a-moves.trace" "$tmp/bad/one.trace"
+    try night "$tmp/bad"
+    same 'a night with a name that is none' "$(printf '%-72s  one' "$(refused BADNAME)")
+1 pair: BADNAME 1; 0 without a partner, 0 not read
+refused: one: BADNAME: the model '$tmp/bad/one.model', bytes 27 to 30 (04 00 00 01), section names in use: $(
+        )name 1024 stands in its list, and a name is at most 1023" "$out"
+}
+
+# unfit LABEL REASON LINES [MODEL TEXT]: a names file that doesn't fit is told, and the numbers stand alone.
 unfit() {
-    cp "$desk" "$tmp/n.model"
+    cp "${4-$desk}" "$tmp/n.model"
     printf '%b' "$3" >"$tmp/n.names"
     try show "$tmp/n.model"
     same "$1: exit" 0 "$status"
     same "$1: told" "cantivorex: the names in '$tmp/n.names' are not used: $2" "$err"
-    has "$1: not used" 'clause 0: 2 from 0, 1' "$out"
+    has "$1: not used" "${5-clause 0: 2 from 0, 1}" "$out"
 }
 
 test_names() {
@@ -514,9 +700,18 @@ test_names() {
     unfit 'a goal that is not there' 'line 2: the model has no goal 2' '# goals\ngoal 2 x\n'
     unfit 'no text' 'byte 7 is not text' 'fact 0 \0377\n'
     unfit 'a character that moves the cursor' "line 1: it has a character that isn't plain text" 'fact 0 x\033[2J\n'
-    unfit 'no name' 'line 1: expected fact, rule or goal, a number and a name' 'fact 0\n'
-    unfit 'no number' 'line 1: expected fact, rule or goal, a number and a name' 'fact +1 x\n'
-    unfit 'another kind' 'line 1: expected fact, rule or goal, a number and a name' 'state 0 x\n'
+    local expected='line 1: expected fact, rule, goal or name, a number and what it is called'
+    unfit 'no name' "$expected" 'fact 0\n'
+    unfit 'no number' "$expected" 'fact +1 x\n'
+    unfit 'another kind' "$expected" 'state 0 x\n'
+    local fresh=("$root/samples/table2-fresh/fresh.model" 'in use at the start: 0, 1')
+    unfit 'a name twice' 'line 2: name 3 has a name already, x' 'name 3 x\nname 3 x\n' "${fresh[@]}"
+    unfit 'a name over 1,023' 'line 2: the model has no name 1024: a name is at most 1023' \
+        'name 1023 x\nname 1024 y\n' "${fresh[@]}"
+    unfit 'a name in version 1' 'line 1: the model has no name 0: only version 3 has names' 'name 0 x\n'
+    unfit 'a name in version 2' 'line 2: the model has no name 0: only version 3 has names' \
+        'fact 0 x\nname 0 x\n' "$root/samples/mandate/persistent.model" 'clause 0: 1 from 0'
+    cp "$desk" "$tmp/n.model"
     printf 'fact 0 some clerk\r\n\n# no more\n' >"$tmp/n.names"
     try show "$tmp/n.model"
     has 'names with spaces, lines ended as elsewhere' 'clause 0: 2 from 0 some clerk, 1' "$out"
@@ -803,6 +998,8 @@ test_count_number
 test_fact_order
 test_name
 test_persistent
+test_names_in_use
+test_names_made
 test_usage
 test_help
 test_exit_verdict
@@ -812,6 +1009,8 @@ test_show_and_count
 test_table2
 test_tasks
 test_mandate
+test_fresh_names
+test_table2_fresh
 test_names
 test_night
 test_gaps

@@ -36,7 +36,7 @@ test_samples() {
     done <<<"$desk_lines"
 }
 
-# Version 2: what holds only through a clause is neither removed nor stored, if it is persistent. Version 3 there isn't.
+# Version 2: what holds only through a clause is neither removed nor stored, if it is persistent.
 test_version_2() {
     local folder=$root/samples/mandate
     same 'a derived fact that is added again outlives its derivation' \
@@ -45,10 +45,29 @@ test_version_2() {
     same 'a derived fact that is persistent goes with its derivation' \
         'NOATTACK step 2 fact 1 rounds 2 held 0 kind positive round none' \
         "$(line_of "$folder/persistent.model" "$folder/revoked.trace")"
-    { bytes 03; tail -c +2 "$folder/persistent.model"; } >"$tmp/three.model"
-    same 'version 3 of a model' "$(refused VERSION)" "$(line_of "$tmp/three.model" "$folder/revoked.trace")"
     { bytes 02; tail -c +2 "$folder/revoked.trace"; } >"$tmp/two.trace"
     same 'version 2 of a trace' "$(refused VERSION)" "$(line_of "$folder/persistent.model" "$tmp/two.trace")"
+}
+
+# fresh TRACE LINE: Table 2 with names.
+fresh() {
+    local folder=$root/samples/table2-fresh
+    same "Table 2 with names, $1" "$2" "$(line_of "$folder/fresh.model" "$folder/$1.trace")"
+}
+
+# Version 3: a rule fires only if the names that it makes are unused. Version 4 there isn't.
+test_version_3() {
+    fresh a-moves-twice 'ATTACK step 2 fact none rounds 3 held 4 kind none round none'
+    fresh a-moves 'NOATTACK step 1 fact 20 rounds 2 held 4 kind positive round none'
+    fresh a-moves-back 'USED step 2 fact 2 rounds 3 held 4 kind none round none'
+    fresh b-makes-it-too 'USED step 1 fact 2 rounds 2 held 4 kind none round none'
+    fresh not-fresh 'USED step 0 fact 1 rounds 1 held 4 kind none round none'
+    local folder=$root/samples/table2-fresh
+    { bytes 04; tail -c +2 "$folder/fresh.model"; } >"$tmp/four.model"
+    same 'version 4 of a model' "$(refused VERSION)" "$(line_of "$tmp/four.model" "$folder/a-moves.trace")"
+    # The clause of version 2, 0004 0001 0000, is taken for three names.
+    { bytes 03; tail -c +2 "$root/samples/mandate/persistent.model"; } >"$tmp/three.model"
+    same 'version 3 without its section' "$(refused ORDER)" "$(line_of "$tmp/three.model" "$folder/a-moves.trace")"
 }
 
 # small NAME MODEL LINE: a model without rules, and a trace that asks for attack state 0 without steps.
@@ -79,6 +98,9 @@ test_names() {
     small 'COUNT, F of 4,097' '01 00000002 1001' "$(refused COUNT)"
     small 'FACT, 1 where F is 1' '01 00000002 0001  00000002 0001' "$(refused FACT)"
     small 'ORDER, 1 before 0' '01 00000002 0002  00000004 0001 0000' "$(refused ORDER)"
+    small 'BADNAME, 1,024 in use' '03 00000002 0000  00000000  00000000  00000002 0400' "$(refused BADNAME)"
+    small 'BADNAME, 1,024 made by a rule' '03 00000002 0000  00000000  00000000  00000002 03FF  00000000
+        0000000C 000A 0000 0000 0000 0001 0400' "$(refused BADNAME)"
 }
 
 test_missing_files() {
@@ -197,6 +219,7 @@ test_sizes() {
 
 test_samples
 test_version_2
+test_version_3
 test_small_models
 test_names
 test_missing_files

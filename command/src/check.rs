@@ -15,13 +15,14 @@ pub const COMMAND: Command = Command {
     help: "\
 The line goes to standard output: the verdict's name, the step, the fact, the
 rounds, the facts held, and of the condition that isn't met the kind and the
-round. For a refusal a line on standard error says which file is at fault,
-which bytes, in which section or record, and what was expected. How any other
-trace ends `cantivorex count` says in words.
+round. For USED the fact is a name. For a refusal a line on standard error says
+which file is at fault, which bytes, in which section or record, and what was
+expected. How any other trace ends `cantivorex count` says in words.
 
   --exit-verdict  the exit is the verdict's number: 0 ATTACK, 10 BLOCKED,
-                  11 NOATTACK, 9 NAME, and 2 to 7 for LONG to ORDER; what is
-                  1 or 2 without this option is then 101 or 102
+                  11 NOATTACK, 13 USED, 9 NAME, 12 BADNAME, and 2 to 7 for
+                  LONG to ORDER; what is 1 or 2 without this option is then
+                  101 or 102
 
 MODEL or TRACE may be - for standard input. A file whose name starts with a
 dash stands after --.

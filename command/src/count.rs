@@ -1,5 +1,5 @@
 //! `count MODEL [TRACE]`: count the facts before you believe a trace. The library is asked what the model has, and
-//! about each prefix of the trace; every figure is its answer, or the number of facts for which it gave one.
+//! about each prefix of the trace; every figure is its answer, or the number of facts or names for which it gave one.
 
 use crate::args::{Args, Known};
 use crate::endings::ending;
@@ -17,14 +17,15 @@ pub const COMMAND: Command = Command {
     usage: "count MODEL [TRACE] [--all]",
     brief: "the facts of each state that a trace reaches, and how it ends, in words",
     help: "\
-First what the model has, and its persistent facts if it is of version 2. Then
-for each state that the trace reaches (without TRACE the initial one): the facts
+First what the model has, and its persistent facts from version 2 on. Then for
+each state that the trace reaches (without TRACE the initial one): the facts
 stored, those that closing reaches with the round of each, the number of rounds,
-and the facts not reached. Then how the trace ends: which condition, of which
-rule or goal, is missing or in the way. Names stand beside the numbers where
-NAME.names lies beside NAME.model.
+and the facts not reached; in version 3 also the names that the step made and
+all names in use. Then how the trace ends: which condition, of which rule or
+goal, is missing or in the way, or which name is in use. What the numbers are
+called stands beside them where NAME.names lies beside NAME.model.
 
-  --all  lists of more than 24 facts are shown whole
+  --all  lists of more than 24 are shown whole
 
 Examples:
   cantivorex count samples/desk.model
@@ -49,8 +50,9 @@ fn run(args: &Args) -> Result<u8, Failure> {
     let counts = judge::counts(&pair.model);
     if let Some(counts) = counts {
         output.line(&sizes(&pair, &counts))?;
-        let facts = counts.facts;
-        let mut report = Report { pair: &pair, facts, names: &names, most, output: &mut output };
+        let (facts, own_names) = (counts.facts, layout::names(&pair.model));
+        let (pair, names, output) = (&pair, &names, &mut output);
+        let mut report = Report { pair, facts, own_names, names, most, output };
         report.persistent()?;
         report.states(&judged, has_trace)?;
     }
@@ -78,6 +80,8 @@ fn sizes(pair: &Pair, counts: &Counts) -> String {
 struct Report<'a> {
     pair: &'a Pair,
     facts: usize,
+    /// How many names the model may speak of, none before version 3; `names` is what everything is called.
+    own_names: usize,
     names: &'a Names,
     most: usize,
     output: &'a mut Output,
@@ -98,6 +102,7 @@ impl Report<'_> {
         }
         let trace = layout::trace_names(&self.pair.trace);
         let (goal, steps) = (trace[0], &trace[1..]);
+        let mut before = None;
         for count in 0..=last.verdict.step {
             let prefix = layout::trace(goal, &steps[..count]);
             let heading = match count {
@@ -108,7 +113,10 @@ impl Report<'_> {
                     self.names.rule(steps[count - 1])
                 ),
             };
-            self.state(&heading, &judge::check(&self.pair.model, &prefix))?;
+            let judged = judge::check(&self.pair.model, &prefix);
+            self.state(&heading, &judged)?;
+            self.in_use(&judged, before.as_ref())?;
+            before = Some(judged);
             // A long trace shows a state as soon as it is reached.
             self.output.flush()?;
         }
@@ -133,7 +141,8 @@ impl Report<'_> {
         let (by_closing, not_reached) = (reached.len(), missing.len());
         let in_rounds = counted(rounds, "round");
         self.output.line(&format!(
-            "{heading}: {held} stored, {by_closing} reached by closing in {in_rounds}, {not_reached} not reached"
+            "{heading}: {held} stored, {by_closing} reached by closing in {in_rounds}, {not_reached} not reached{}",
+            self.in_use_figure(judged)
         ))?;
         self.facts("stored", &stored, |_| None)?;
         self.facts("reached", &reached, |fact| judged.round(fact))?;
@@ -147,10 +156,39 @@ impl Report<'_> {
         facts: &[usize],
         round: impl Fn(usize) -> Option<usize>,
     ) -> Result<(), Failure> {
+        let names = self.names;
         let entries = facts.iter().map(|fact| match round(*fact) {
-            Some(round) => format!("{} (round {round})", self.names.fact(*fact)),
-            None => self.names.fact(*fact),
+            Some(round) => format!("{} (round {round})", names.fact(*fact)),
+            None => names.fact(*fact),
         });
+        self.list(word, entries)
+    }
+
+    fn in_use_figure(&self, judged: &Judged) -> String {
+        match self.own_names {
+            0 => String::new(),
+            _ => format!(", {} in use", counted(self.names_in(judged).count(), "name")),
+        }
+    }
+
+    /// The names in use, and first those of them that weren't in the state before.
+    fn in_use(&mut self, judged: &Judged, before: Option<&Judged>) -> Result<(), Failure> {
+        if self.own_names == 0 {
+            return Ok(());
+        }
+        let names = self.names;
+        if let Some(before) = before {
+            let made = self.names_in(judged).filter(|name| !before.is_in_use(*name));
+            self.list("made", made.map(|name| names.name(name)))?;
+        }
+        self.list("in use", self.names_in(judged).map(|name| names.name(name)))
+    }
+
+    fn names_in<'b>(&self, judged: &'b Judged) -> impl Iterator<Item = usize> + 'b {
+        (0..self.own_names).filter(|name| judged.is_in_use(*name))
+    }
+
+    fn list(&mut self, word: &str, entries: impl Iterator<Item = String>) -> Result<(), Failure> {
         let text = listed(entries, self.most);
         self.output.line(&format!("  {:<13}{text}", format!("{word}:")))
     }

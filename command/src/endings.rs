@@ -1,4 +1,4 @@
-//! How a run ends, in words: which condition, of which rule or goal, is missing or in the way.
+//! How a run ends, in words: which condition, of which rule or goal, is missing or in the way, or which name is in use.
 
 use crate::judge;
 use crate::names::Names;
@@ -15,11 +15,10 @@ pub fn ending(verdict: &Verdict, goal: usize, steps: &[usize], names: &Names) ->
     };
     let found = match verdict.number {
         0 => format!("{fired}, and goal {goal} is met in state {step}"),
-        10 => format!(
-            "step {step}, rule {}, can't fire: {}",
-            names.rule(steps[step]),
-            unmet(verdict, names)
-        ),
+        10 => format!("{}: {}", stopped(step, steps, names), unmet(verdict, names)),
+        13 => {
+            format!("{}: name {} is in use", stopped(step, steps, names), names.name(verdict.fact))
+        }
         _ => {
             format!(
                 "{fired}, but goal {goal} is not met in state {step}: {}",
@@ -28,6 +27,10 @@ pub fn ending(verdict: &Verdict, goal: usize, steps: &[usize], names: &Names) ->
         }
     };
     format!("{}: {found}", judge::name(verdict))
+}
+
+fn stopped(step: usize, steps: &[usize], names: &Names) -> String {
+    format!("step {step}, rule {}, can't fire", names.rule(steps[step]))
 }
 
 /// The first condition that isn't met. A fact of P isn't in the closure; one of N is.

@@ -2,7 +2,7 @@
 //! model has.
 
 pub use library::Counts;
-use library::{Verdict, NONE, STATE_BYTES, TABLE_ENTRIES};
+use library::{Verdict, NAMES_BYTES, NONE, STATE_BYTES, TABLE_ENTRIES};
 
 /// The refusal of a trace that has no fault in its bytes.
 const NAME: u8 = 9;
@@ -14,18 +14,24 @@ pub struct Judged {
     pub verdict: Verdict,
     state: Vec<u8>,
     table: Vec<u16>,
+    names: Vec<u8>,
 }
 
 pub fn check(model: &[u8], trace: &[u8]) -> Judged {
     let mut state = vec![0; STATE_BYTES];
     let mut table = vec![0; TABLE_ENTRIES];
-    let verdict = library::check(model, trace, &mut state, &mut table);
-    Judged { verdict, state, table }
+    let mut names = vec![0; NAMES_BYTES];
+    let verdict = library::check(model, trace, &mut state, &mut table, &mut names);
+    Judged { verdict, state, table, names }
 }
 
 impl Judged {
     pub fn is_stored(&self, fact: usize) -> bool {
-        self.state[fact / 8] >> (fact % 8) & 1 == 1
+        has_bit(&self.state, fact)
+    }
+
+    pub fn is_in_use(&self, name: usize) -> bool {
+        has_bit(&self.names, name)
     }
 
     /// The first round in which a fact stands in the last state's closing.
@@ -38,6 +44,11 @@ impl Judged {
     pub fn rounds(&self, model: &[u8]) -> Result<usize, u8> {
         library::close(model, &self.state, &mut vec![0; TABLE_ENTRIES])
     }
+}
+
+/// Facts and names are laid out alike.
+fn has_bit(bytes: &[u8], number: usize) -> bool {
+    bytes[number / 8] >> (number % 8) & 1 == 1
 }
 
 /// What a model has; none where it is refused.
@@ -53,7 +64,7 @@ pub fn is_trace(file: &[u8]) -> bool {
 
 /// Whether the files were refused, so that no step was run.
 pub fn is_refusal(verdict: &Verdict) -> bool {
-    !matches!(verdict.number, 0 | 10 | 11)
+    !matches!(verdict.number, 0 | 10 | 11 | 13)
 }
 
 /// The names of the verdicts that there are; number 8 is never given.
@@ -68,7 +79,8 @@ pub fn name(verdict: &Verdict) -> &'static str {
 #[cfg(test)]
 mod tests {
     use super::*;
-    use crate::layout;
+    use crate::layout::{self, Model};
+    use std::collections::BTreeSet;
 
     /// What is shown of the states of a run fits its verdict: the rounds add up, and the last state is held.
     #[test]
@@ -86,5 +98,28 @@ mod tests {
             }
             assert_eq!((rounds, held), (last.verdict.rounds, last.verdict.held), "pair {index}");
         }
+    }
+
+    /// The names in use are those at the start and those that the steps made; no version but 3 has any.
+    #[test]
+    fn the_steps_make_the_names_in_use() {
+        let mut made = 0;
+        for index in 0..2_000 {
+            let second::gen::Pair { model, trace, .. } = second::gen::sound(17, index);
+            let (names, read) = (layout::trace_names(&trace), Model::read(&model));
+            let last = check(&model, &trace);
+            let mut expected: BTreeSet<usize> = read.in_use.into_iter().flatten().collect();
+            for count in 0..=last.verdict.step {
+                let fired = names[1..=count].last().map(|rule| &read.rules[*rule]);
+                if let Some(list) = fired.and_then(|lists| lists.get(3)) {
+                    made += list.numbers.len();
+                    expected.extend(&list.numbers);
+                }
+                let prefix = check(&model, &layout::trace(names[0], &names[1..=count]));
+                let in_use = (0..layout::NAMES).filter(|name| prefix.is_in_use(*name));
+                assert_eq!(BTreeSet::from_iter(in_use), expected, "pair {index}");
+            }
+        }
+        assert!(made > 100, "too few names: {made}");
     }
 }

@@ -10,8 +10,11 @@ pub enum Role {
     Sizes,
     Initial,
     Persistent,
+    InUse,
     Clauses,
     Rules,
+    /// With a fourth list, the names that a rule makes.
+    MakingRules,
     Goals,
     Trace,
 }
@@ -22,11 +25,13 @@ pub type Versions = &'static [&'static [Role]];
 pub const MODEL: Versions = &[
     &[Sizes, Initial, Clauses, Rules, Goals],
     &[Sizes, Initial, Persistent, Clauses, Rules, Goals],
+    &[Sizes, Initial, Persistent, InUse, Clauses, MakingRules, Goals],
 ];
 pub const TRACE: Versions = &[&[Trace]];
 
-/// The most facts and steps.
+/// The most facts, names and steps. Names are the numbers below theirs, whatever the model.
 pub const FACTS: usize = 4_096;
+pub const NAMES: usize = 1_024;
 pub const STEPS: usize = 1_024;
 
 /// How the records of a section are called, and how many there may be.
@@ -41,8 +46,9 @@ impl Role {
             Sizes => "sizes",
             Initial => "initial facts",
             Persistent => "persistent facts",
+            InUse => "names in use",
             Clauses => "clauses",
-            Rules => "rules",
+            Rules | MakingRules => "rules",
             Goals => "attack states",
             Trace => "goal and steps",
         }
@@ -52,9 +58,29 @@ impl Role {
     pub fn kind(self) -> Option<Kind> {
         match self {
             Clauses => Some(Kind { word: "clause", most: 4_096 }),
-            Rules => Some(Kind { word: "rule", most: 2_048 }),
+            Rules | MakingRules => Some(Kind { word: "rule", most: 2_048 }),
             Goals => Some(Kind { word: "goal", most: 64 }),
-            Sizes | Initial | Persistent | Trace => None,
+            Sizes | Initial | Persistent | InUse | Trace => None,
+        }
+    }
+}
+
+/// What a list has the numbers of.
+#[derive(Clone, Copy, Debug, PartialEq, Eq)]
+pub enum Of {
+    Facts,
+    Names,
+    /// Sizes and traces, which are told in words of their own.
+    Others,
+}
+
+impl Of {
+    /// One of them.
+    pub fn word(self) -> &'static str {
+        match self {
+            Of::Facts => "fact",
+            Of::Names => "name",
+            Of::Others => "number",
         }
     }
 }
@@ -62,14 +88,15 @@ impl Role {
 /// One list of a record or of a section of bare numbers: how it is called, its bound, its numbers.
 pub struct List {
     pub word: &'static str,
+    pub of: Of,
     pub most: usize,
     pub numbers: Vec<usize>,
 }
 
 impl List {
-    fn new(word: &'static str, most: usize, bytes: &[u8]) -> List {
+    fn new(word: &'static str, of: Of, most: usize, bytes: &[u8]) -> List {
         let numbers = bytes.chunks_exact(2).map(number).collect();
-        List { word, most, numbers }
+        List { word, of, most, numbers }
     }
 }
 
@@ -88,47 +115,61 @@ pub fn lists(role: Role, bytes: &[u8]) -> Result<Vec<List>, String> {
     match role {
         Sizes => {
             fits(size == 2, "exactly 2 were expected")?;
-            Ok(vec![List::new("F", 1, bytes)])
+            Ok(vec![List::new("F", Of::Others, 1, bytes)])
         }
         Initial | Persistent => {
             fits(size.is_multiple_of(2), "2 for each fact were expected")?;
-            Ok(vec![List::new("list", FACTS, bytes)])
+            Ok(vec![List::new("list", Of::Facts, FACTS, bytes)])
+        }
+        InUse => {
+            fits(size.is_multiple_of(2), "2 for each name were expected")?;
+            Ok(vec![List::new("list", Of::Names, NAMES, bytes)])
         }
         Trace => {
             fits(
                 size > 0 && size.is_multiple_of(2),
                 "2 for the goal and 2 for each step were expected",
             )?;
-            Ok(vec![List::new("list", STEPS + 1, bytes)])
+            Ok(vec![List::new("list", Of::Others, STEPS + 1, bytes)])
         }
         Clauses => {
             fits(
                 size > 0 && size.is_multiple_of(2),
                 "2 for the head and 2 for each body fact were expected",
             )?;
-            Ok(vec![List::new("head", 1, &bytes[..2]), List::new("body", 16, &bytes[2..])])
+            let (head, body) = bytes.split_at(2);
+            Ok(vec![List::new("head", Of::Facts, 1, head), List::new("body", Of::Facts, 16, body)])
         }
-        Rules => counted_lists(&["P", "N", "A"], bytes),
-        Goals => counted_lists(&["P", "N"], bytes),
+        Rules => counted_lists(&[P, N, A], bytes),
+        MakingRules => counted_lists(&[P, N, A, MADE], bytes),
+        Goals => counted_lists(&[P, N], bytes),
     }
 }
 
+/// How a counted list is called, and what it has.
+type Called = (&'static str, Of);
+
+const P: Called = ("P", Of::Facts);
+const N: Called = ("N", Of::Facts);
+const A: Called = ("A", Of::Facts);
+const MADE: Called = ("list of names", Of::Names);
+
 /// Lists that each stand behind their count, and fill the record.
-fn counted_lists(words: &[&'static str], bytes: &[u8]) -> Result<Vec<List>, String> {
+fn counted_lists(called: &[Called], bytes: &[u8]) -> Result<Vec<List>, String> {
     let mut rest = bytes;
     let mut out = Vec::new();
-    for word in words {
+    for (word, of) in called {
         let Some((count, after)) = rest.split_at_checked(2) else {
             return Err(format!(
                 "it ends where the 2 bytes of the count of its {word} were expected"
             ));
         };
         let count = number(count);
-        let Some((facts, after)) = after.split_at_checked(2 * count) else {
-            let (facts, left) = (counted(count, "fact"), counted(after.len(), "byte"));
-            return Err(format!("the count of its {word} says {facts}, it has {left} more"));
+        let Some((numbers, after)) = after.split_at_checked(2 * count) else {
+            let (claimed, left) = (counted(count, of.word()), counted(after.len(), "byte"));
+            return Err(format!("the count of its {word} says {claimed}, it has {left} more"));
         };
-        out.push(List::new(word, 32, facts));
+        out.push(List::new(word, *of, 32, numbers));
         rest = after;
     }
     match rest.len() {
@@ -205,6 +246,8 @@ pub struct Model {
     pub initial: Vec<usize>,
     /// None where the version has no such section.
     pub persistent: Option<Vec<usize>>,
+    /// The names in use at the start, or none likewise.
+    pub in_use: Option<Vec<usize>>,
     pub clauses: Vec<Vec<List>>,
     pub rules: Vec<Vec<List>>,
     pub goals: Vec<Vec<List>>,
@@ -219,8 +262,9 @@ impl Model {
             match role {
                 Initial => model.initial = numbers(role, &section),
                 Persistent => model.persistent = Some(numbers(role, &section)),
+                InUse => model.in_use = Some(numbers(role, &section)),
                 Clauses => model.clauses = cut(),
-                Rules => model.rules = cut(),
+                Rules | MakingRules => model.rules = cut(),
                 Goals => model.goals = cut(),
                 Sizes | Trace => {}
             }
@@ -233,6 +277,16 @@ impl Model {
 pub fn facts(file: &[u8]) -> usize {
     let cut = sections(file, MODEL);
     cut.first().and_then(|(role, section)| numbers(*role, section).first().copied()).unwrap_or(0)
+}
+
+/// How many names a model may speak of: none before version 3.
+pub fn names(file: &[u8]) -> usize {
+    let has_names = sections(file, MODEL).iter().any(|(role, _)| *role == InUse);
+    if has_names {
+        NAMES
+    } else {
+        0
+    }
 }
 
 /// The numbers of a bare section.
@@ -277,11 +331,18 @@ mod tests {
             let ours = Model::read(&file);
             let theirs = second::parse_model(&file).expect("a sound model");
             let clause = |c: &second::Clause| vec![vec![c.head as usize], wide(&c.body)];
-            let rule = |r: &second::Rule| [&r.pos, &r.neg, &r.add].map(|list| wide(list)).to_vec();
+            // A fourth list there is exactly if there is the section of names.
+            let most = if theirs.names.is_some() { 4 } else { 3 };
+            let rule = |r: &second::Rule| {
+                let lists = [&r.pos, &r.neg, &r.add, &r.names].map(|list| wide(list));
+                lists[..most].to_vec()
+            };
             let goal = |a: &second::Attack| [&a.pos, &a.neg].map(|list| wide(list)).to_vec();
             assert_eq!(facts(&file), theirs.facts as usize, "pair {index}");
             assert_eq!(ours.initial, wide(&theirs.initial), "pair {index}");
             assert_eq!(ours.persistent, theirs.persistent.map(|list| wide(&list)), "pair {index}");
+            assert_eq!(names(&file), if theirs.names.is_some() { NAMES } else { 0 });
+            assert_eq!(ours.in_use, theirs.names.map(|list| wide(&list)), "pair {index}");
             assert_eq!(numbers(&ours.clauses), Vec::from_iter(theirs.clauses.iter().map(clause)));
             assert_eq!(numbers(&ours.rules), Vec::from_iter(theirs.rules.iter().map(rule)));
             assert_eq!(numbers(&ours.goals), Vec::from_iter(theirs.attacks.iter().map(goal)));

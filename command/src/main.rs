@@ -41,7 +41,8 @@ const COMMANDS: [&Command; 4] = [&check::COMMAND, &count::COMMAND, &night::COMMA
 const INTRODUCTION: &str = "\
 Checks attack traces. A model says what may happen, a trace claims an attack on
 it; the answer is ATTACK, or BLOCKED or NOATTACK at the first condition that is
-not met, or why the files are refused. The answers are a proved library's.
+not met, or USED at the first name that is not new, or why the files are
+refused. The answers are a proved library's.
 ";
 
 const OPTIONS: &str = "

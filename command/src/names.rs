@@ -1,22 +1,26 @@
-//! Names beside numbers. `NAME.names` beside `NAME.model` has lines `fact 5 edits(ben)`, `rule 0 sign`,
-//! `goal 0 ..`; empty lines and lines that start with # are passed over. A file that doesn't fit its model is
-//! told and not used.
+//! Names beside numbers. `NAME.names` beside `NAME.model` has lines `fact 5 edits(ben)`, `rule 0 sign`, `goal 0 ..`,
+//! and `name 7 nonce1` for what a model's own names are called; empty lines and lines that start with # are passed
+//! over. A file that doesn't fit its model is told and not used.
 
 use crate::failure::Failure;
 use crate::files::read_plain;
-use crate::judge::{self, Counts};
+use crate::judge;
+use crate::layout::{self, Of};
 use crate::output::{is_plain, quoted, tell};
 use std::collections::HashMap;
 use std::ffi::OsStr;
 use std::path::Path;
 
-const KINDS: [&str; 3] = ["fact", "rule", "goal"];
+const KINDS: [&str; 4] = ["fact", "rule", "goal", "name"];
+
+/// How many there are of each kind.
+type Most = [usize; KINDS.len()];
 
 /// The most bytes of a names file.
 const BYTES: usize = 1 << 20;
 
 #[derive(Default)]
-pub struct Names([HashMap<usize, String>; 3]);
+pub struct Names([HashMap<usize, String>; KINDS.len()]);
 
 impl Names {
     /// The names of a model; none where there is no names file, or where the model can't be followed.
@@ -29,7 +33,8 @@ impl Names {
             return Ok(Names::default());
         };
         let bytes = read_plain(file.as_os_str(), BYTES).map_err(|failure| failure.message);
-        bytes.and_then(|bytes| parse(&bytes, &counts)).or_else(|reason| {
+        let most = [counts.facts, counts.rules, counts.goals, layout::names(model)];
+        bytes.and_then(|bytes| parse(&bytes, &most)).or_else(|reason| {
             let shown = quoted(file.as_os_str());
             tell(&format!("the names in {shown} are not used: {reason}"))?;
             Ok(Names::default())
@@ -48,6 +53,19 @@ impl Names {
         self.beside_number(2, number)
     }
 
+    pub fn name(&self, number: usize) -> String {
+        self.beside_number(3, number)
+    }
+
+    /// A number of a list.
+    pub fn of(&self, of: Of, number: usize) -> String {
+        match of {
+            Of::Facts => self.fact(number),
+            Of::Names => self.name(number),
+            Of::Others => number.to_string(),
+        }
+    }
+
     /// Without any, a list of all facts would say nothing.
     pub fn has_facts(&self) -> bool {
         !self.0[0].is_empty()
@@ -61,7 +79,7 @@ impl Names {
     }
 }
 
-fn parse(bytes: &[u8], counts: &Counts) -> Result<Names, String> {
+fn parse(bytes: &[u8], most: &Most) -> Result<Names, String> {
     if bytes.len() > BYTES {
         return Err(format!("the file has over {BYTES} bytes"));
     }
@@ -70,28 +88,37 @@ fn parse(bytes: &[u8], counts: &Counts) -> Result<Names, String> {
     let mut names = Names::default();
     for (index, line) in text.lines().enumerate() {
         if !line.is_empty() && !line.starts_with('#') {
-            add(&mut names, line, counts)
+            add(&mut names, line, most)
                 .map_err(|reason| format!("line {}: {reason}", index + 1))?;
         }
     }
     Ok(names)
 }
 
-fn add(names: &mut Names, line: &str, counts: &Counts) -> Result<(), String> {
-    let most = [counts.facts, counts.rules, counts.goals];
+fn add(names: &mut Names, line: &str, most: &Most) -> Result<(), String> {
     let (kind, number, name) =
-        split(line).ok_or("expected fact, rule or goal, a number and a name")?;
+        split(line).ok_or("expected fact, rule, goal or name, a number and what it is called")?;
     let word = KINDS[kind];
     if !line.chars().all(is_plain) {
         return Err("it has a character that isn't plain text".to_string());
     }
     if number >= most[kind] {
-        return Err(format!("the model has no {word} {number}"));
+        return Err(lacking(word, number, most[kind]));
     }
     match names.0[kind].insert(number, name.to_string()) {
         Some(before) => Err(format!("{word} {number} has a name already, {before}")),
         None => Ok(()),
     }
+}
+
+/// How many names there are is no figure of the model, so that it is told.
+fn lacking(word: &str, number: usize, most: usize) -> String {
+    let why = match (word, most) {
+        ("name", 0) => ": only version 3 has names".to_string(),
+        ("name", _) => format!(": a name is at most {}", most - 1),
+        _ => String::new(),
+    };
+    format!("the model has no {word} {number}{why}")
 }
 
 /// A line's kind, number and name.

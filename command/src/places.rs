@@ -3,7 +3,7 @@
 
 use crate::files::{Pair, MODEL_BYTES, TRACE_BYTES};
 use crate::judge;
-use crate::layout::{self, lists, records, sections, Kind, List, Piece, Role, Versions};
+use crate::layout::{self, lists, records, sections, Kind, List, Of, Piece, Role, Versions};
 use crate::output::{counted, quoted};
 use library::Verdict;
 use std::ffi::OsStr;
@@ -102,7 +102,7 @@ impl Place<'_> {
         ))
     }
 
-    /// 4 to 7: the section first.
+    /// 4 to 7 and 12: the section first.
     fn in_section(&self) -> Option<String> {
         let (_, _, file) = self.file();
         let all = sections(file, self.versions());
@@ -129,8 +129,8 @@ impl Place<'_> {
         let (start, size) = (self.verdict.start, self.verdict.size);
         match role.kind() {
             Some(_) => section.start <= start && start < section.end(),
-            // An empty list of facts is fine; empty sizes and an empty trace are not.
-            None if size == 0 && matches!(role, Role::Initial | Role::Persistent) => false,
+            // An empty list of facts or names is fine; empty sizes and an empty trace are not.
+            None if size == 0 && !matches!(role, Role::Sizes | Role::Trace) => false,
             None => (start, size) == (section.start, section.bytes.len()),
         }
     }
@@ -158,29 +158,46 @@ impl Place<'_> {
         };
         match self.verdict.number {
             5 => cut.iter().find_map(|list| too_many(role, list)),
-            6 => cut.iter().find_map(|list| {
+            6 => {
                 // The library counts no model that it refuses.
                 let facts = layout::facts(&self.pair.model);
-                let fact = list.numbers.iter().find(|fact| **fact >= facts)?;
+                let (fact, list) = beyond(&cut, Of::Facts, facts)?;
                 let known = numbered("fact", facts);
-                Some(format!("fact {fact} stands in its {}, and the model has {known}", list.word))
-            }),
+                Some(format!("fact {fact} stands in its {list}, and the model has {known}"))
+            }
             7 => cut.iter().find_map(|list| {
                 let two = list.numbers.windows(2).find(|two| two[0] >= two[1])?;
+                let ([first, then], what) = ([two[0], two[1]], list.of.word());
                 Some(format!(
-                    "in its {} fact {} stands before fact {}: facts ascend",
-                    list.word, two[0], two[1]
+                    "in its {} {what} {first} stands before {what} {then}: {what}s ascend",
+                    list.word
                 ))
             }),
+            12 => {
+                let (name, list) = beyond(&cut, Of::Names, layout::NAMES)?;
+                let most = layout::NAMES - 1;
+                Some(format!("name {name} stands in its {list}, and a name is at most {most}"))
+            }
             _ => None,
         }
     }
 }
 
-/// The versions that there are, of so many digits: "01 or 02".
+/// The first of these numbers that isn't below the end, and how its list is called.
+fn beyond(cut: &[List], of: Of, end: usize) -> Option<(usize, &'static str)> {
+    cut.iter().filter(|list| list.of == of).find_map(|list| {
+        let number = list.numbers.iter().find(|number| **number >= end)?;
+        Some((*number, list.word))
+    })
+}
+
+/// The versions that there are, of so many digits: "01, 02 or 03".
 fn any_of(versions: Versions, digits: usize) -> String {
     let all: Vec<String> = (1..=versions.len()).map(|n| format!("{n:0digits$}")).collect();
-    all.join(" or ")
+    match all.split_last() {
+        Some((last, others @ [_, ..])) => format!("{} or {last}", others.join(", ")),
+        _ => all.concat(),
+    }
 }
 
 /// A length that isn't whole or says more than there is up to `end`.
@@ -208,8 +225,10 @@ fn too_many(role: Role, list: &List) -> Option<String> {
             Some(format!("it has {} steps, and at most {} are allowed", count - 1, layout::STEPS))
         }
         _ if count > list.most => Some(format!(
-            "its {} has {count} facts, and at most {} are allowed",
-            list.word, list.most
+            "its {} has {count} {}s, and at most {} are allowed",
+            list.word,
+            list.of.word(),
+            list.most
         )),
         _ => None,
     }
@@ -228,10 +247,17 @@ fn numbered(word: &str, count: usize) -> String {
 mod tests {
     use super::*;
 
-    /// Every refusal of many damaged pairs is placed, and each number occurs, also in the section of version 2.
+    /// What versions 2 and 3 add, by its words, with the numbers that it is refused with.
+    const ADDED: [(&str, &[usize]); 3] = [
+        ("section persistent facts: ", &[4, 6, 7]),
+        ("section names in use: ", &[4, 7, 12]),
+        (" its list of names", &[4, 5, 7, 12]),
+    ];
+
+    /// Every refusal of many damaged pairs is placed, and each number occurs, also in what later versions add.
     #[test]
     fn every_refusal_has_its_words() {
-        let (mut seen, mut persistent) = ([0; 12], [0; 12]);
+        let (mut seen, mut added) = ([0; 14], [[0; 14]; ADDED.len()]);
         for index in 0..10_000 {
             let second::gen::Pair { model, trace, .. } = second::gen::damaged(5, index);
             let verdict = judge::check(&model, &trace).verdict;
@@ -241,13 +267,16 @@ mod tests {
             if judge::is_refusal(&verdict) {
                 let words = refusal(&verdict, &pair);
                 assert!(!words.contains(UNPLACED), "pair {index}: {words}");
-                let is_there = words.contains("section persistent facts: ");
-                persistent[verdict.number as usize] += is_there as usize;
+                for (counts, (part, _)) in added.iter_mut().zip(ADDED) {
+                    counts[verdict.number as usize] += words.contains(part) as usize;
+                }
             }
         }
-        let refusals = [2, 3, 4, 5, 6, 7, 9].map(|number| seen[number]);
+        let refusals = [2, 3, 4, 5, 6, 7, 9, 12].map(|number| seen[number]);
         assert!(refusals.iter().all(|count| *count > 10), "too few of some number: {seen:?}");
-        let of_section = [4, 6, 7].map(|number| persistent[number]);
-        assert!(of_section.iter().all(|count| *count > 10), "too few of some: {persistent:?}");
+        for (counts, (part, numbers)) in added.iter().zip(ADDED) {
+            let is_seen = numbers.iter().all(|number| counts[*number] > 10);
+            assert!(is_seen, "too few of some of {part}: {counts:?}");
+        }
     }
 }

@@ -4,7 +4,7 @@ use crate::args::Args;
 use crate::failure::{unanswered, Failure};
 use crate::files::Pair;
 use crate::judge::{self, Counts};
-use crate::layout::{List, Model};
+use crate::layout::{List, Model, Of};
 use crate::names::Names;
 use crate::output::{listed, Output};
 use crate::places::refusal;
@@ -17,7 +17,8 @@ pub const COMMAND: Command = Command {
     help: "\
 Its facts, clauses, rules and attack states, with names where NAME.names lies
 beside NAME.model. A rule or goal `needs` its P and is stopped by its N, `not`;
-a rule takes away its P, persistent facts aside, and then `adds` its A. A model
+a rule takes away its P, persistent facts aside, and then `adds` its A. In
+version 3 it `makes` names, and fires only if none of them is in use. A model
 that is refused is not shown: standard error says why, and the exit is 1.
 
 Example:
@@ -42,16 +43,21 @@ fn run(args: &Args) -> Result<u8, Failure> {
 }
 
 fn text(model: &Model, counts: &Counts, names: &Names) -> Vec<String> {
-    let all = |facts: &[usize]| listed(facts.iter().map(|fact| names.fact(*fact)), usize::MAX);
+    let all = |of: Of, numbers: &[usize]| {
+        listed(numbers.iter().map(|number| names.of(of, *number)), usize::MAX)
+    };
+    let facts = |numbers: &[usize]| all(Of::Facts, numbers);
     let mut out = vec![format!("facts: {}", counts.facts)];
     if names.has_facts() {
         out.extend((0..counts.facts).map(|fact| format!("  {}", names.fact(fact))));
     }
-    out.push(format!("initial facts: {}", all(&model.initial)));
-    out.extend(model.persistent.iter().map(|facts| format!("persistent facts: {}", all(facts))));
+    out.push(format!("initial facts: {}", facts(&model.initial)));
+    out.extend(model.persistent.iter().map(|list| format!("persistent facts: {}", facts(list))));
+    let in_use = |list| format!("names in use at the start: {}", all(Of::Names, list));
+    out.extend(model.in_use.as_deref().map(in_use));
     out.push(format!("clauses: {}", counts.clauses));
     for (number, clause) in model.clauses.iter().enumerate() {
-        let [head, body] = [0, 1].map(|i| all(&clause[i].numbers));
+        let [head, body] = [0, 1].map(|i| facts(&clause[i].numbers));
         out.push(format!(
             "  clause {number}: {head} from {}",
             if clause[1].numbers.is_empty() { "nothing" } else { &body }
@@ -68,12 +74,12 @@ fn text(model: &Model, counts: &Counts, names: &Names) -> Vec<String> {
     out
 }
 
-/// The lists of a rule or an attack state that have facts.
-fn conditions(lists: &[List], all: impl Fn(&[usize]) -> String) -> String {
-    let words = ["needs", "not", "adds"];
+/// The lists of a rule or an attack state that aren't empty.
+fn conditions(lists: &[List], all: impl Fn(Of, &[usize]) -> String) -> String {
+    let words = ["needs", "not", "adds", "makes"];
     let full = words.iter().zip(lists).filter(|(_, list)| !list.numbers.is_empty());
     let parts: Vec<String> =
-        full.map(|(word, list)| format!("{word} {}", all(&list.numbers))).collect();
+        full.map(|(word, list)| format!("{word} {}", all(list.of, &list.numbers))).collect();
     if parts.is_empty() {
         "no conditions".to_string()
     } else {

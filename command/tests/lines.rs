@@ -65,7 +65,7 @@ fn all_commands_have_the_line_of_document_01s_program() {
     let lines: Vec<String> = (0..PAIRS).map(|index| line(&folder.0, &program, index)).collect();
     let names = lines.iter().filter_map(|line| line.split(' ').next());
     let seen = std::collections::BTreeSet::from_iter(names);
-    assert!(seen.len() >= 10, "too few of the verdicts: {seen:?}");
+    assert!(seen.len() >= 12, "too few of the verdicts: {seen:?}");
     for limit in [&[][..], &["--limit", "60"]] {
         let night = text(&command(&folder.0, &[&["night", "."], limit].concat()));
         for (index, (shown, line)) in night.lines().zip(&lines).enumerate() {

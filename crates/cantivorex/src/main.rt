@@ -128,6 +128,14 @@ fn name_of(number: u8) -> Word
             bytes: *b"NOATTACK",
             size: 8,
         },
+        12 => Word {
+            bytes: *b"BADNAME ",
+            size: 7,
+        },
+        13 => Word {
+            bytes: *b"USED    ",
+            size: 4,
+        },
         _ => Word {
             bytes: *b"        ",
             size: 0,
@@ -200,10 +208,12 @@ fn main() {
     let trace_size = t.size;
     let mut state = [0u8; 512];
     let mut table = [0u16; 4096];
+    let mut names = [0u8; 128];
     print_line(checking::check(
         &model[..model_size],
         &trace[..trace_size],
         &mut state,
         &mut table,
+        &mut names,
     ));
 }

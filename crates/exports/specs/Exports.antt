@@ -31,7 +31,7 @@ values v =
     v .number ∷ v .step ∷ v .fact ∷ v .rounds ∷ v .held ∷ v .kind ∷ v .round
     ∷ v .part .mark ∷ v .part .start ∷ v .part .size ∷ []
 
--- the answer with room for the verdict: its number, its values, and every byte and entry of both buffers
+-- the answer with room for the verdict: its number, its values, and every byte and entry of the buffers
 pub record VerdictOut (m t : List ℕ) (before after : Lent) (out out' : List ℕ) (r : ℕ) : Type 0 where
   pub number : r ≡ verdict m t before .number
   pub values : out' ≡ over (values (verdict m t before)) out
@@ -60,7 +60,7 @@ unfoldable pub ClosesOut : Bool → List ℕ → List ℕ → List ℕ → List 
 ClosesOut true m state table table' out out' r = (r ≡ 1) × (table' ≡ table) × (out' ≡ out)
 ClosesOut false m state table table' out out' r = RoundsOut m state table table' out out' r
 
--- "4 to 7 for the model", after its 2 and 3: "A refusal, here and in every later tool, is its number alone."
+-- "4 to 7 for the model" and 12, after its 2 and 3: "A refusal, here and in every later tool, is its number alone."
 unfoldable pub modelRefusal : List ℕ → Option ℕ
 unfolding modelFault
 modelRefusal m = Option·map (λ f. f .number) (modelFault m)

@@ -13,7 +13,7 @@ use borrow.Author.Tests.{eq-eqb, ne-eqb, leb-true, leb-false}
 use Rattle.sets.specs.Sets.{any}
 use Rattle.sets.proofs.Laws.{by-test}
 use Rattle.records.specs.Words.{word, ascending}
-use Rattle.records.specs.Records.{given, _orElse_, recordOf, nameRow, rows, listCount, cut, listsOf}
+use Rattle.records.specs.Records.{given, _orElse_, recordOf, nameRow, rows, listCount, cutLists, cut, listsOf}
 use Rattle.records.specs.Records.{most, overLong, wrongFact, wrongName, anyList, judge}
 use Rattle.records.specs.Answers.{code}
 use Rattle.records.specs.Contracts.{pickedOf, before}
@@ -56,6 +56,22 @@ fourth Clause F j h l = absurd (omega arith)
 fourth Rule F j h l = absurd (omega arith)
 fourth Maker F j h l = let is : j ≡ 3 = omega arith in rw is
 fourth Goal F j h l = absurd (omega arith)
+
+-- A record without a list that has a count is a clause,
+pub uncounted : (K : Kind) → listCount K ≡ 0 → K ≡ Clause
+unfolding listCount rows
+uncounted Clause e = refl
+uncounted Rule e = absurd (omega arith)
+uncounted Maker e = absurd (omega arith)
+uncounted Goal e = absurd (omega arith)
+
+-- and one that has some is cut into them.
+pub counted-cut : (K : Kind) → (listCount K ≡ 0 → ⊥) → cut K ≡ cutLists (listCount K)
+unfolding listCount cut
+counted-cut Clause e = absurd (e refl)
+counted-cut Rule e = refl
+counted-cut Maker e = refl
+counted-cut Goal e = refl
 
 -- ---- the lists of a record
 

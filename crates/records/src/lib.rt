@@ -271,12 +271,10 @@ fn record_number(rest: &[u8], kind: Kind, n: usize, facts: usize) -> u8
     }
     let body = &rest[2..size + 2];
     let marks = beyond(kind, n);
-    match kind {
-        Kind::Clause => clause_number(body, facts, marks),
-        Kind::Rule => lists_number(body, kind, facts, marks),
-        Kind::Maker => lists_number(body, kind, facts, marks),
-        Kind::Goal => lists_number(body, kind, facts, marks),
+    if list_count(kind) == 0 {
+        return clause_number(body, facts, marks);
     }
+    lists_number(body, kind, facts, marks)
 }
 
 // The marks before a record's lists are looked at: whether record n is beyond its section's bound.

@@ -133,15 +133,16 @@ pub fn rule_kind(version: u8) -> Kind
 fn read(bytes: &[u8], version: u8, role: Role, facts: usize) -> Found
     ensures { λ r. ⌜ r ≡ found (reader version role facts (now (bytes .entry))) (entries role (now (bytes .entry))) ⌝ }
 {
-    match role {
-        Role::Sizes => whole(sizes_number(bytes), bytes.len()),
-        Role::Initial => numbers(bytes, false, facts),
-        Role::Persistent => numbers(bytes, false, facts),
-        Role::Names => numbers(bytes, true, 1024),
-        Role::Clauses => records::first_fault(bytes, Kind::Clause, facts),
-        Role::Rules => records::first_fault(bytes, rule_kind(version), facts),
-        Role::Goals => records::first_fault(bytes, Kind::Goal, facts),
-    }
+    let kind = match role {
+        Role::Sizes => return whole(sizes_number(bytes), bytes.len()),
+        Role::Initial => return numbers(bytes, false, facts),
+        Role::Persistent => return numbers(bytes, false, facts),
+        Role::Names => return numbers(bytes, true, 1024),
+        Role::Clauses => Kind::Clause,
+        Role::Rules => rule_kind(version),
+        Role::Goals => Kind::Goal,
+    };
+    records::first_fault(bytes, kind, facts)
 }
 
 // The section whose length stands at a place, in a model of so many facts.

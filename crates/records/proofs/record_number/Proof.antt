@@ -12,7 +12,7 @@ use Rattle.records.specs.Answers.{code}
 use Rattle.records.specs.Contracts.{pickedOf}
 use Rattle.records.specs.declared.Kind.{Kind}
 use Rattle.records.specs.declared.Kind.the-variants.{Clause}
-use Rattle.records.proofs.Judging.{judge-is, first-cut, first-none}
+use Rattle.records.proofs.Judging.{judge-is, first-cut, first-none, uncounted, counted-cut}
 use borrow.Author.Needs.{needs}
 use Rattle.records.proofs.record_number.Statement.{statement}
 use Rattle.records.proofs.record_number.Tie as tie
@@ -54,29 +54,14 @@ part-body-end c = search needs
 beyond-requires : tie.Need-beyond-requires
 beyond-requires c κs = search needs
 
-enum-told : tie.Need-enum-told
-enum-told c = search needs
+list-count-requires : tie.Need-list-count-requires
+list-count-requires c κs = search needs
 
 clause-number-requires : tie.Need-clause-number-requires
 clause-number-requires c κs = search needs
 
-enum-told-2 : tie.Need-enum-told-2
-enum-told-2 c = search needs
-
 lists-number-requires : tie.Need-lists-number-requires
 lists-number-requires c κs = search needs
-
-enum-told-3 : tie.Need-enum-told-3
-enum-told-3 c = search needs
-
-lists-number-requires-2 : tie.Need-lists-number-requires-2
-lists-number-requires-2 c κs = search needs
-
-enum-told-4 : tie.Need-enum-told-4
-enum-told-4 c = search needs
-
-lists-number-requires-3 : tie.Need-lists-number-requires-3
-lists-number-requires-3 c κs = search needs
 
 -- one whose length does fit, of a kind whose bytes are known to be cut so
 fitted : (c : tie.After-beyond) (K : Kind) (into : List ℕ → Option (List (List ℕ)))
@@ -93,36 +78,21 @@ fitted c K into kind cuts =
     let size : got .word-at .result + 2 - 2 ≡ word rest = omega (arith, got .word-at .ensures) in
     rw (size, c .beyond .ensures, kind, judge-is, first-cut K rest (omega arith), cuts)
 
--- the same of a kind whose lists have counts
-counted : (c : tie.After-beyond)
-    → let args = c .before .before .before .before .before .before .args in
-    let size = c .before .before .before .word-at .result in
-    let body = take (size + 2 - 2) (drop 2 (now (args .rest))) in
-    let into = cutLists (listCount (args .kind)) in
-    cut (args .kind) ≡ into
-    → code (pickedOf (rows (args .kind) (args .facts)) (c .beyond .result) (into body))
-    ≡ code (judge (args .kind) (args .facts) (args .n) (recordOf (now (args .rest))))
-counted c =
-    let kind = c .before .before .before .before .before .before .args .kind in
-    fitted c kind (cutLists (listCount kind)) refl
-
 returns-3 : tie.Need-returns-3
 unfolding cut
 returns-3 c =
+    let counted = c .before .before in
     c .clause-number .ensures
-    ∙ fitted (c .before .before .before) Clause cutClause (c .before .enum-told .given .1) refl
+    ∙ fitted (counted .before) Clause cutClause
+    (uncounted _ (sym (counted .list-count .ensures) ∙ c .before .if3 .taken)) refl
 
 returns-4 : tie.Need-returns-4
-unfolding cut
-returns-4 c = c .lists-number .ensures ∙ counted (c .before .before .before) (rw (c .before .enum-told2 .given .1))
-
-returns-5 : tie.Need-returns-5
-unfolding cut
-returns-5 c = c .lists-number2 .ensures ∙ counted (c .before .before .before) (rw (c .before .enum-told3 .given .1))
-
-returns-6 : tie.Need-returns-6
-unfolding cut
-returns-6 c = c .lists-number3 .ensures ∙ counted (c .before .before .before) (rw (c .before .enum-told4 .given .1))
+returns-4 c =
+    let counted = c .before .before in
+    let kind = counted .before .before .before .before .before .before .before .args .kind in
+    c .lists-number .ensures
+    ∙ fitted (counted .before) kind (cutLists (listCount kind)) refl
+    (counted-cut kind (λ e. c .before .if3 .left (counted .list-count .ensures ∙ e)))
 
 pub record-number-spec : {M : Type 1} → statement M
 record-number-spec =
@@ -137,15 +107,8 @@ record-number-spec =
     part-body-start
     part-body-end
     beyond-requires
-    enum-told
+    list-count-requires
     clause-number-requires
-    enum-told-2
-    lists-number-requires
-    enum-told-3
-    lists-number-requires-2
-    enum-told-4
-    lists-number-requires-3
     returns-3
-    returns-4
-    returns-5
-    returns-6)
+    lists-number-requires
+    returns-4)

@@ -1,5 +1,6 @@
 -- `sections::read` meets its contract: each role has its reader.
 use mathlib.Core.Path.{_∙_}
+use mathlib.Core.Logic.{⊎-elim}
 use denote.Ref.{now}
 use Rattle.sections.specs.Sections.{sizes, reader, entries}
 use Rattle.sections.proofs.Parts.{sizes-counted, whole-fault}
@@ -37,23 +38,17 @@ numbers-requires-3 c κs = search needs
 enum-told-5 : tie.Need-enum-told-5
 enum-told-5 c = search needs
 
-first-fault-requires : tie.Need-first-fault-requires
-first-fault-requires c κs = search needs
-
 enum-told-6 : tie.Need-enum-told-6
 enum-told-6 c = search needs
 
 rule-kind-requires : tie.Need-rule-kind-requires
 rule-kind-requires c κs = search needs
 
-first-fault-requires-2 : tie.Need-first-fault-requires-2
-first-fault-requires-2 c κs = search needs
-
 enum-told-7 : tie.Need-enum-told-7
 enum-told-7 c = search needs
 
-first-fault-requires-3 : tie.Need-first-fault-requires-3
-first-fault-requires-3 c κs = search needs
+first-fault-requires : tie.Need-first-fault-requires
+first-fault-requires c κs = search needs
 
 returns : tie.Need-returns
 unfolding reader entries
@@ -77,17 +72,14 @@ returns-4 : tie.Need-returns-4
 unfolding reader entries
 returns-4 c = c .numbers3 .ensures ∙ rw (c .before .enum-told4 .given .1)
 
+-- a section of records has the kind of its role
 returns-5 : tie.Need-returns-5
 unfolding reader entries
-returns-5 c = c .first-fault .ensures ∙ rw (c .before .enum-told5 .given .1)
-
-returns-6 : tie.Need-returns-6
-unfolding reader entries
-returns-6 c = c .first-fault2 .ensures ∙ rw (c .before .before .enum-told6 .given .1, c .before .rule-kind .ensures)
-
-returns-7 : tie.Need-returns-7
-unfolding reader entries
-returns-7 c = c .first-fault3 .ensures ∙ rw (c .before .enum-told7 .given .1)
+returns-5 c =
+    c .first-fault .ensures
+    ∙ ⊎-elim (λ w. rw (w .2, w .1 .given .1))
+    (⊎-elim (λ w. rw (w .3, w .2 .ensures, w .1 .given .1)) (λ w. rw (w .2, w .1 .given .1)))
+    (c .before .match .came)
 
 pub read-spec : {M : Type 1} → statement M
 read-spec =
@@ -96,23 +88,19 @@ read-spec =
     enum-told
     sizes-number-requires
     whole-requires
+    returns
     enum-told-2
     numbers-requires
+    returns-2
     enum-told-3
     numbers-requires-2
+    returns-3
     enum-told-4
     numbers-requires-3
+    returns-4
     enum-told-5
-    first-fault-requires
     enum-told-6
     rule-kind-requires
-    first-fault-requires-2
     enum-told-7
-    first-fault-requires-3
-    returns
-    returns-2
-    returns-3
-    returns-4
-    returns-5
-    returns-6
-    returns-7)
+    first-fault-requires
+    returns-5)

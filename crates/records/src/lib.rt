@@ -1,11 +1,12 @@
 // Reads records out of a lent section: where each starts, what is wrong with it, and the lists in it.
 ghost use mathlib.Core.Path.{_≡_};
 ghost use Prim.Native.Nat.{_+_, _<_, _≤_};
+ghost use mathlib.Core.Bool.{not};
 ghost use mathlib.Core.List.{_∷_};
 ghost use lib.Dec.{leb};
 ghost use lib.ListN.{length, take, drop};
 ghost use Rattle.sets.specs.Sets.{any};
-ghost use Rattle.records.specs.Words.{word, words};
+ghost use Rattle.records.specs.Words.{word, words, ascending};
 ghost use Rattle.records.specs.Records.{recordOf, records, placeOf, rows, listCount, cutLists, cutClause};
 ghost use Rattle.records.specs.Records.{bare, judge, firstFault, factRow};
 ghost use Rattle.records.specs.Answers.{code, found};
@@ -45,6 +46,12 @@ struct Marks {
     fact: bool,
     name: bool,
     order: bool,
+}
+
+// What looking along a list shows.
+struct Seen {
+    large: bool,
+    broken: bool,
 }
 
 fn wide(x: u8) -> usize
@@ -145,26 +152,50 @@ fn mark(marks: Marks, names: bool, long: bool, large: bool, broken: bool) -> Mar
     }
 }
 
-// The marks with those of the list that these bytes are. While the numbers ascend the last is the largest, so that it alone is held to
-// the limit: with both tests for each number the lists of rules take three quarters longer.
-fn mark_list(list: &[u8], row: Row, marks: Marks) -> Marks
-    ensures { λ r. ⌜ r ≡ markedBy row (words (now (list .entry))) marks ⌝ }
+// Whether a list has a number that is the limit or more, and whether it doesn't ascend. While the numbers ascend the
+// last is the largest, so that it alone is held to the limit: with both tests for each number the lists of rules take
+// three quarters longer.
+fn look(list: &[u8], limit: usize) -> Seen
+    ensures { λ r. let numbers = words (now (list .entry)) in
+        ⌜ (r .large ≡ any (leb limit) numbers) × (r .broken ≡ not (ascending numbers)) ⌝ }
 {
-    let long = row.longest < list.len() / 2;
     if list.len() < 2 {
-        return mark(marks, row.names, long, false, false);
+        return Seen {
+            large: false,
+            broken: false,
+        };
     }
     let mut last = word_at(list, 0);
     let mut at = 2;
     while 2 <= list.len() - at {
         let f = word_at(list, at);
         if f <= last {
-            return mark(marks, row.names, long, reaches(list, row.limit), true);
+            return Seen {
+                large: reaches(list, limit),
+                broken: true,
+            };
         }
         last = f;
         at += 2;
     }
-    mark(marks, row.names, long, row.limit <= last, false)
+    Seen {
+        large: limit <= last,
+        broken: false,
+    }
+}
+
+// The marks with those of the list that these bytes are.
+fn mark_list(list: &[u8], row: Row, marks: Marks) -> Marks
+    ensures { λ r. ⌜ r ≡ markedBy row (words (now (list .entry))) marks ⌝ }
+{
+    let seen = look(list, row.limit);
+    mark(
+        marks,
+        row.names,
+        row.longest < list.len() / 2,
+        seen.large,
+        seen.broken,
+    )
 }
 
 // Document 01's number for the marks, the first that applies; 0 for none.

@@ -1,5 +1,5 @@
 -- Document 01's cases A to L as one table: a model and a trace, and the line expected ("The desk model and its
--- traces"); and the cases that show why document 02's wish 2 was made.
+-- traces"); the cases that show why document 02's wish 2 was made, and those of its wish 9.
 use Prim.Native.Nat.{ℕ}
 use mathlib.Core.Path.{_≡_}
 use mathlib.Core.Bool.{false}
@@ -21,6 +21,9 @@ h from body = record { head = h; body = body }
 
 abbrev pub rule : List ℕ → List ℕ → List ℕ → Rule
 rule P N A = record { P = P; N = N; A = A; names = [] }
+
+abbrev pub maker : List ℕ → List ℕ → List ℕ → Rule
+maker P A names = record { P = P; N = []; A = A; names = names }
 
 abbrev pub goal : List ℕ → List ℕ → Goal
 goal P N = record { P = P; N = N }
@@ -135,9 +138,37 @@ stored = record {
   goals = goal (1 ∷ []) (0 ∷ []) ∷ [];
 }
 
--- the rows of "The desk model and its traces", A to L, and those of persistence
+-- "A rule fires only if all its names are unused; firing uses them, and nothing frees them." (document 02, wish 9): name
+-- 5 is in use at the start. The first rule adds fact 1 and makes 7, the second makes 5, the third takes fact 0 away and
+-- makes 3 and 7, the fourth asks for fact 1 and makes 5.
+unfoldable pub named : Model
+named = record {
+  F = 2;
+  initial = 0 ∷ [];
+  persistent = [];
+  names = 5 ∷ [];
+  clauses = [];
+  rules =
+      maker [] (1 ∷ []) (7 ∷ []) ∷ maker [] [] (5 ∷ []) ∷ maker (0 ∷ []) [] (3 ∷ 7 ∷ []) ∷ maker (1 ∷ []) [] (5 ∷ [])
+      ∷ [];
+  goals = goal (1 ∷ []) [] ∷ [];
+}
+
+-- a model of one rule, with these names in use at the start
+abbrev pub ruled : List ℕ → Rule → Model
+ruled names r = record {
+  F = 2;
+  initial = [];
+  persistent = [];
+  names = names;
+  clauses = [];
+  rules = r ∷ [];
+  goals = goal [] [] ∷ [];
+}
+
+-- the rows of "The desk model and its traces", A to L, and those of persistence and of names
 unfoldable pub cases : List Case
-unfolding desk translated published stored
+unfolding desk translated published stored named
 cases =
     -- A to G, on the desk model
     case desk (trace 0 (0 ∷ [])) 0 1 65535 4 4 0 65535
@@ -162,6 +193,20 @@ cases =
     -- a stored persistent fact stays; what isn't persistent goes, so that the rule fires once
     ∷ row 2 stored (trace 0 (0 ∷ [])) 0 1 65535 0 1 0 65535
     ∷ row 2 stored (trace 0 (0 ∷ 0 ∷ [])) 10 1 0 0 1 1 65535
+    -- names: unused, made before, in use at the start, the list's second, not freed by what takes a fact away; a fact
+    -- that is missing comes first
+    ∷ row 3 named (trace 0 (0 ∷ [])) 0 1 65535 0 2 0 65535
+    ∷ row 3 named (trace 0 (0 ∷ 0 ∷ [])) 13 1 7 0 2 0 65535
+    ∷ row 3 named (trace 0 (1 ∷ [])) 13 0 5 0 1 0 65535
+    ∷ row 3 named (trace 0 (0 ∷ 2 ∷ [])) 13 1 7 0 2 0 65535
+    ∷ row 3 named (trace 0 (2 ∷ 0 ∷ [])) 13 1 7 0 0 0 65535
+    ∷ row 3 named (trace 0 (3 ∷ [])) 10 0 1 0 1 1 65535
+    -- 1,023 is the last name; BADNAME comes after FACT and before ORDER
+    ∷ row 3 (ruled (1023 ∷ []) (maker [] [] (1022 ∷ []))) (trace 0 (0 ∷ [])) 0 1 65535 0 0 0 65535
+    ∷ row 3 (ruled (1024 ∷ []) (maker [] [] [])) (trace 0 []) 12 0 65535 0 0 0 65535
+    ∷ row 3 (ruled [] (maker [] [] (1024 ∷ 1 ∷ []))) (trace 0 []) 12 0 65535 0 0 0 65535
+    ∷ row 3 (ruled [] (maker [] (2 ∷ []) (1024 ∷ []))) (trace 0 []) 6 0 65535 0 0 0 65535
+    ∷ row 3 (ruled (2 ∷ 2 ∷ []) (maker [] [] [])) (trace 0 []) 7 0 65535 0 0 0 65535
     ∷ []
 
 -- the claim: with enough room, the verdict on every case's files shows the line expected

@@ -12,7 +12,8 @@ unfoldable pub ascii : String → List ℕ
 ascii ended = []
 ascii (c then s) = code c ∷ ascii s
 
--- the column "name" of document 01's table, from number 0 on; 8 is never given and has none
+-- the column "name" of document 01's table, from number 0 on; 8 is never given and has none; "12 BADNAME" and "13
+-- USED" (document 02, wish 9)
 unfoldable pub names : List (List ℕ)
 unfolding ascii
 names =
@@ -28,6 +29,8 @@ names =
     ∷ ascii "NAME"
     ∷ ascii "BLOCKED"
     ∷ ascii "NOATTACK"
+    ∷ ascii "BADNAME"
+    ∷ ascii "USED"
     ∷ []
 
 -- the name of a number

@@ -79,7 +79,7 @@ struct Word {
     size: usize,
 }
 
-// The verdict's name in document 01's table.
+// The verdict's name in document 01's table, with those of document 02.
 fn name_of(number: u8) -> Word
     ensures { λ r. ⌜ Spells (r .bytes) (r .size) (nameOf number) ⌝ }
 {
@@ -127,6 +127,14 @@ fn name_of(number: u8) -> Word
         11 => Word {
             bytes: *b"NOATTACK",
             size: 8,
+        },
+        12 => Word {
+            bytes: *b"BADNAME ",
+            size: 7,
+        },
+        13 => Word {
+            bytes: *b"USED    ",
+            size: 4,
         },
         _ => Word {
             bytes: *b"        ",
@@ -200,10 +208,12 @@ fn main() {
     let trace_size = t.size;
     let mut state = [0u8; 512];
     let mut table = [0u16; 4096];
+    let mut names = [0u8; 128];
     print_line(checking::check(
         &model[..model_size],
         &trace[..trace_size],
         &mut state,
         &mut table,
+        &mut names,
     ));
 }

@@ -4,16 +4,15 @@ use mathlib.Core.Path.{_≡_, sym, _∙_}
 use mathlib.Core.Bool.{Bool, true, false}
 use mathlib.Core.List.{List}
 use Rattle.facts.specs.Facts.{members}
-use Rattle.facts.proofs.Laws.{Bytes}
 use Rattle.files.specs.Files.{modelOf}
 use Rattle.closing.specs.Closing.{closeRefusal}
 use Rattle.closing.proofs.Alone.{table-unique}
 use Rattle.checking.specs.Verdict.{Lent, refusal}
-use Rattle.checking.proofs.Theorems.{buffers-unique}
+use Rattle.checking.proofs.Theorems.{LentBytes, buffers-unique}
 use Rattle.exports.specs.Exports.{ChecksOut, ClosesOut, CountsOut, PartOut}
 
--- checking: the number, the values and both buffers
-module _ (m t : List ℕ) (before : Lent) {a b : Lent} (bytes-a : Bytes (a .state)) (bytes-b : Bytes (b .state)) where
+-- checking: the number, the values and the buffers
+module _ (m t : List ℕ) (before : Lent) {a b : Lent} (bytes-a : LentBytes a) (bytes-b : LentBytes b) where
   pub checks-unique : (short : Bool) (out o₁ o₂ : List ℕ) (r₁ r₂ : ℕ) → ChecksOut short m t before a out o₁ r₁
       → ChecksOut short m t before b out o₂ r₂ → (r₁ ≡ r₂) × (a ≡ b) × (o₁ ≡ o₂)
   unfolding ChecksOut

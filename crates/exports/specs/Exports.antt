@@ -31,7 +31,7 @@ values v =
     v .number ∷ v .step ∷ v .fact ∷ v .rounds ∷ v .held ∷ v .kind ∷ v .round
     ∷ v .part .mark ∷ v .part .start ∷ v .part .size ∷ []
 
--- the answer with room for the verdict: its number, its values, and every byte and entry of both buffers
+-- the answer with room for the verdict: its number, its values, and every byte and entry of the buffers
 pub record VerdictOut (m t : List ℕ) (before after : Lent) (out out' : List ℕ) (r : ℕ) : Type 0 where
   pub number : r ≡ verdict m t before .number
   pub values : out' ≡ over (values (verdict m t before)) out

@@ -42,16 +42,18 @@ pub extern "C" fn cantivorex_check(
     trace: &[u8],
     state: &mut [u8],
     table: &mut [u16],
+    names: &mut [u8],
     out: &mut [u64],
 ) -> u8
     ensures { λ r. ⌜ ChecksOut (shorter (now (out .entry)) 10) (now (model .entry)) (now (trace .entry))
-        (record { state = now (state .entry); table = now (table .entry) })
-        (record { state = now (state .exit); table = now (table .exit) }) (now (out .entry)) (now (out .exit)) r ⌝ }
+        (record { state = now (state .entry); table = now (table .entry); names = now (names .entry) })
+        (record { state = now (state .exit); table = now (table .exit); names = now (names .exit) })
+        (now (out .entry)) (now (out .exit)) r ⌝ }
 {
     if out.len() < 10 {
         return 1;
     }
-    let v = checking::check(model, trace, state, table);
+    let v = checking::check(model, trace, state, table, names);
     put(v, out);
     v.number
 }

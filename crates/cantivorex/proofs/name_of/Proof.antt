@@ -16,16 +16,18 @@ next n h other = omega arith
 
 -- A number that is none of those with a name has none.
 unnamed : (k : ℕ) → (k ≡ 0 → ⊥) → (k ≡ 1 → ⊥) → (k ≡ 2 → ⊥) → (k ≡ 3 → ⊥) → (k ≡ 4 → ⊥) → (k ≡ 5 → ⊥) → (k ≡ 6 → ⊥)
-    → (k ≡ 7 → ⊥) → (k ≡ 9 → ⊥) → (k ≡ 10 → ⊥) → (k ≡ 11 → ⊥) → nameOf k ≡ []
+    → (k ≡ 7 → ⊥) → (k ≡ 9 → ⊥) → (k ≡ 10 → ⊥) → (k ≡ 11 → ⊥) → (k ≡ 12 → ⊥) → (k ≡ 13 → ⊥) → nameOf k ≡ []
 unfolding ascii names nameOf
-unnamed k a b c d e f g h i j l = go (eqb k 8) refl
+unnamed k a b c d e f g h i j l m n = go (eqb k 8) refl
   where
     from-8 : 8 ≤ k
     from-8 = next 7 (next 6 (next 5 (next 4 (next 3 (next 2 (next 1 (next 0 zero-le a) b) c) d) e) f) g) h
 
     go : (is : Bool) → eqb k 8 ≡ is → nameOf k ≡ []
     go true q = rw (eqb-true k 8 q)
-    go false q = List·getD-eq-default names [] (next 11 (next 10 (next 9 (next 8 from-8 (eqb-false k 8 q)) i) j) l)
+    go false q =
+        List·getD-eq-default names []
+        (next 13 (next 12 (next 11 (next 10 (next 9 (next 8 from-8 (eqb-false k 8 q)) i) j) l) m) n)
 
 returns : tie.Need-returns
 unfolding ascii names nameOf
@@ -72,16 +74,25 @@ unfolding ascii names nameOf
 returns-11 c = record { eight = refl; fits = omega arith; is = rw (c .before .before .match .keys11) }
 
 returns-12 : tie.Need-returns-12
-returns-12 c =
+unfolding ascii names nameOf
+returns-12 c = record { eight = refl; fits = omega arith; is = rw (c .before .before .match .keys12) }
+
+returns-13 : tie.Need-returns-13
+unfolding ascii names nameOf
+returns-13 c = record { eight = refl; fits = omega arith; is = rw (c .before .before .match .keys13) }
+
+returns-14 : tie.Need-returns-14
+returns-14 c =
     let no = c .before .before .match .rest in
-    let more = no .0 .0 .0 .0 .0 in
+    let more = no .0 .0 .0 .0 .0 .0 in
     record {
       eight = refl;
       fits = omega arith;
       is =
           sym
-          (unnamed _ (more .0 .0 .0 .0 .0 .1) (more .0 .0 .0 .0 .1) (more .0 .0 .0 .1) (more .0 .0 .1) (more .0 .1)
-          (more .1) (no .0 .0 .0 .0 .1) (no .0 .0 .0 .1) (no .0 .0 .1) (no .0 .1) (no .1));
+          (unnamed _ (more .0 .0 .0 .0 .0 .0 .1) (more .0 .0 .0 .0 .0 .1) (more .0 .0 .0 .0 .1) (more .0 .0 .0 .1)
+          (more .0 .0 .1) (more .0 .1) (more .1) (no .0 .0 .0 .0 .0 .1) (no .0 .0 .0 .0 .1) (no .0 .0 .0 .1)
+          (no .0 .0 .1) (no .0 .1) (no .1));
     }
 
 pub name-of-spec : {M : Type 1} → statement M
@@ -99,4 +110,6 @@ name-of-spec =
     returns-9
     returns-10
     returns-11
-    returns-12)
+    returns-12
+    returns-13
+    returns-14)

@@ -16,7 +16,6 @@ use Rattle.facts.proofs.Laws.{kept-same, kept-trans}
 use Rattle.records.specs.Words.{word, words}
 use Rattle.checking.specs.Stepping.{Holds}
 use Rattle.checking.proofs.Changing.{without, done-one, done-all, remove-idle, remove-twice, keeps, takes}
-use borrow.Author.Needs.{needs}
 use Rattle.checking.proofs.stepping.remove_all.Statement.{statement}
 use Rattle.checking.proofs.stepping.remove_all.Tie as tie
 

@@ -79,7 +79,7 @@ struct Word {
     size: usize,
 }
 
-// The verdict's name in document 01's table.
+// The verdict's name in document 01's table, with those of document 02.
 fn name_of(number: u8) -> Word
     ensures { λ r. ⌜ Spells (r .bytes) (r .size) (nameOf number) ⌝ }
 {

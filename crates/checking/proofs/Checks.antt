@@ -7,8 +7,8 @@ use mathlib.Core.Option.{none, some}
 use Rattle.files.specs.Files.{pairFault, modelOf}
 use Rattle.files.specs.declared.Part.{Part}
 use Rattle.files.proofs.Answers.{Blames}
-use Rattle.checking.specs.Verdict.{Lent, noSpace, nothing, refused, blamed, refusal, outcome, ran, verdictOf, Left}
-use Rattle.checking.specs.Verdict.{Buffers, Checked}
+use Rattle.checking.specs.Verdict.{Lent, noSpace, nothing, refused, blamed, refusal, outcome, ran, verdictOf}
+use Rattle.checking.specs.Verdict.{Left, Buffers, Checked}
 use Rattle.checking.specs.declared.Verdict.{Verdict}
 use Rattle.checking.proofs.Refusals.{refuses-room, refuses-fault, refuses-none}
 

@@ -1,12 +1,13 @@
 -- What document 02's wish 9 promises of a verdict (specs/Promises), proved: which names are made and left, when 13 is
 -- given, and that a model without names knows nothing of them.
-use Prim.Native.Nat.{ℕ, _<_}
+use Prim.Native.Nat.{ℕ, _+_, _*_, _<_, zero-le}
 use mathlib.Core.Path.{_≡_, refl, sym, ap, subst, _∙_}
 use mathlib.Core.Logic.{_↔_, _⊎_, inl, inr, ⊎-elim}
 use mathlib.Core.Bool.{false}
 use mathlib.Core.List.{List}
+use native.Mathlib.Omega.{arith}
 use lib.Dec.{T}
-use lib.ListN.{take, getD}
+use lib.ListN.{getD, take}
 use lib.Seq.{take-length}
 use Rattle.sets.specs.Sets.{size, _∈_}
 use Rattle.sets.proofs.Laws.{is-false, listed-is}
@@ -19,6 +20,8 @@ use Rattle.meaning.specs.Promises.{Makes, Nameless, roundsOn}
 use Rattle.meaning.specs.Promises.EndsSo.{blocked as so-blocked}
 use Rattle.meaning.proofs.Theorems.{closure-is-HC, is-run, start-not-made, made-once, names-left}
 use Rattle.meaning.proofs.Theorems.{nameless-empty, nameless-not-used}
+use Rattle.facts.proofs.Byte.{on-none, same-bits}
+use Rattle.facts.proofs.Laws.{Bytes, members-at}
 use Rattle.files.specs.Files.{modelOf, traceOf}
 use Rattle.files.proofs.Laws.{none-named, none-made}
 use Rattle.causes.proofs.Versions.{no-badname}
@@ -52,6 +55,14 @@ module _ {m t : List ℕ} {l : Lent} (w : WellFormed m t l) where
     -- A model without names leaves none.
     pub no-names-held : Nameless (modelOf m) → (n : ℕ) → namesIn (after .names) n ≡ false
     no-names-held nameless n = left w checked .names n ∙ is-false (nameless-empty nameless (first-not-met w .0) n)
+
+    -- Its bytes are zeros.
+    pub zero-names : Nameless (modelOf m) → Bytes (after .names) → (i : ℕ) → i < 128 → getD (after .names) i 0 ≡ 0
+    zero-names nameless bytes i h =
+        same-bits _ 0 (bytes i) (omega arith)
+        (λ k hk.
+        sym (members-at 128 (after .names) i k h hk) ∙ no-names-held nameless (i * 8 + k)
+        ∙ sym (on-none 0 0 k refl zero-le))
 
   -- Where 13 is given, the step and the name are such.
   used-at : verdict m t l .number ≡ 13 → UsedAt m t (verdict m t l .step) (verdict m t l .fact)

@@ -104,7 +104,8 @@ module _ (m t : List ℕ) where
       }
         where
           next : stateIn after ≡ meant.after (M .persistent) ruleAt (stateIn l)
-          next = rw (← p, ← a, ← q, ← k) (λ i. record { facts = fun-ext (facts .set) i; names = fun-ext (names .set) i })
+          next =
+              rw (← p, ← a, ← q, ← k) (λ i. record { facts = fun-ext (facts .set) i; names = fun-ext (names .set) i })
 
       -- A condition of it is not met.
       pub on-stop : {c : Condition} {r : Steps} → fired < length ks → asked (some c) → r .fired ≡ fired

@@ -27,15 +27,14 @@ use Rattle.files.specs.Files.{Blamed, factCount, modelOf, traceOf, pairFault}
 use Rattle.files.specs.Answers.{blamedNumber}
 use Rattle.files.proofs.Laws.{initial-below, clauses-bound, clause-below, rule-below}
 use Rattle.files.proofs.Traces.{fine-pair, pair-named}
-use Rattle.causes.specs.Causes.{RightPair}
+use Rattle.causes.specs.Causes.{RightPair, Refusing}
 use Rattle.causes.proofs.Causes.{pair-cause, cause-range}
 use Rattle.causes.proofs.Exact.{right-exactly}
 use Rattle.closing.proofs.Laws.{filled-unique}
-use Rattle.checking.specs.Verdict.{Lent, noSpace, stopNumber, numberOf, factOf, kindOf, roundOf, refused, blamed, ran, outcome}
-use Rattle.checking.specs.Verdict.{refusal, verdictOf, Left, Buffers}
-use Rattle.checking.specs.Verdict.{Checked}
-use Rattle.checking.specs.Promises.{verdict, WellFormed, Stopping, endNumber, Given, AtFault, Values, Kinds, InFile}
-use Rattle.causes.specs.Causes.{Refusing}
+use Rattle.checking.specs.Verdict.{Lent, noSpace, stopNumber, numberOf, factOf, kindOf, roundOf, refused, blamed}
+use Rattle.checking.specs.Verdict.{ran, outcome, refusal, verdictOf, Left, Buffers, Checked}
+use Rattle.checking.specs.Promises.{verdict, WellFormed, Stopping, endNumber, Given, AtFault, Values}
+use Rattle.checking.specs.Promises.{Kinds, InFile}
 use Rattle.checking.specs.Promises.InFile.{inModel}
 use Rattle.checking.specs.declared.Verdict.{Verdict}
 use Rattle.checking.proofs.Refusals.{refuses-none, by-cause}

@@ -8,8 +8,8 @@ use Rattle.meaning.specs.Run.Ending.{attack, blocked, notMet}
 use Rattle.files.specs.Files.{modelOf, traceOf}
 use Rattle.files.specs.Answers.{entryPart, goalPart}
 use Rattle.files.specs.declared.Part.{Part}
-use Rattle.checking.specs.Verdict.{nothing, stopNumber, factIn, factOf, kindIn, kindOf, roundIn, roundOf, numberOf}
-use Rattle.checking.specs.Verdict.{partFor, ran}
+use Rattle.checking.specs.Verdict.{nothing, stopNumber, numberOf, factIn, factOf, kindIn, kindOf, roundIn}
+use Rattle.checking.specs.Verdict.{roundOf, partFor, ran}
 use Rattle.checking.specs.Running.{conditionOf, endingOf, Shows}
 use Rattle.checking.specs.declared.Verdict.{Verdict}
 use Rattle.checking.specs.declared.conditions.Condition.the-variants as condition

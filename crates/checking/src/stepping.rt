@@ -53,8 +53,10 @@ pub fn fill(list: &[u8], set: &mut [u8], width: u32)
 pub fn begin(initial: &[u8], names: &[u8], state: &mut [u8], used: &mut [u8])
     requires { ⌜ Known (now initial) × KnownNames (now names) × (512 ≤ length (now state))
         × (128 ≤ length (now used)) ⌝ }
-    ensures facts { λ _. ⌜ Holds 512 (now (state .entry)) (now (state .exit)) (listed (words (now (initial .entry)))) ⌝ }
-    ensures names { λ _. ⌜ Holds 128 (now (used .entry)) (now (used .exit)) (listed (words (now (names .entry)))) ⌝ }
+    ensures facts { λ _. ⌜ Holds 512 (now (state .entry)) (now (state .exit))
+        (listed (words (now (initial .entry)))) ⌝ }
+    ensures names { λ _. ⌜ Holds 128 (now (used .entry)) (now (used .exit))
+        (listed (words (now (names .entry)))) ⌝ }
 {
     fill(initial, state, 512);
     fill(names, used, 128);

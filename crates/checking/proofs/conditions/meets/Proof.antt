@@ -31,7 +31,9 @@ mul-result : tie.Need-mul-result
 mul-result c = omega (arith, small (c .before))
 
 shared-slice-read-result : tie.Need-shared-slice-read-result
-shared-slice-read-result c = omega (arith, small (c .before .before), c .before .before .before .before .before .before .pre .1)
+shared-slice-read-result c =
+    let told = c .before .before in
+    omega (arith, small told, told .before .before .before .before .pre .1)
 
 enum-known-c-2 : tie.Need-enum-known-c-2
 enum-known-c-2 c = search needs
@@ -40,7 +42,9 @@ mul-result-2 : tie.Need-mul-result-2
 mul-result-2 c = omega (arith, small2 (c .before))
 
 shared-slice-read-result-2 : tie.Need-shared-slice-read-result-2
-shared-slice-read-result-2 c = omega (arith, small2 (c .before .before), c .before .before .before .before .before .before .pre .1)
+shared-slice-read-result-2 c =
+    let told = c .before .before in
+    omega (arith, small2 told, told .before .before .before .before .pre .1)
 
 enum-known-c-3 : tie.Need-enum-known-c-3
 enum-known-c-3 c = search needs

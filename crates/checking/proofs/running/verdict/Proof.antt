@@ -110,7 +110,8 @@ returns-2 c =
     let s = told .before .before .before .before .before in
     let known = known-blocked s _ (told .ending .given .1) in
     ran-blocked _ _ _ _ (s .pre .1) _ (f .fact-of .ensures) (r .before .kind-of .ensures)
-    (r .round-of .ensures ∙ round-is _ _ (s .pre .2) _ known) (f .before .number-of .ensures) (told .ending .given .1) (c .entry-part .ensures)
+    (r .round-of .ensures ∙ round-is _ _ (s .pre .2) _ known) (f .before .number-of .ensures)
+    (told .ending .given .1) (c .entry-part .ensures)
 
 returns-3 : tie.Need-returns-3
 returns-3 c =

@@ -104,7 +104,8 @@ module _ (m : List ℕ) where
       let wrong-q : RightSection m q → ⊥ = λ right. right .records i there-q j v in
       let same : r ≡ q = one-role r q in-r in-q before-r before-q wrong-r wrong-q in
       one-wrong q n i (subst (λ r. (a b : ℕ) → a < n → WrongIn m r a b → ⊥) same earlier) earlier-q
-      (subst (λ r. WrongIn m r n k) same w) v (subst (λ r. (b : ℕ) → turn b < turn k → WrongIn m r n b → ⊥) same least) least-q
+      (subst (λ r. WrongIn m r n k) same w) v
+      (subst (λ r. (b : ℕ) → turn b < turn k → WrongIn m r n b → ⊥) same least) least-q
 
 -- ---- the trace and the pair
 

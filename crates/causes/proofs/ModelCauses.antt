@@ -35,10 +35,12 @@ right-section m r fit fine = record {
   records = λ n h. number-none (getD m 0 0) r (factCount m) n (recordIn m r n) (clear n h);
 }
   where
-    clear : (n : ℕ) → n < length (judgedRecords r (sectionOf m r)) → numberIn (getD m 0 0) r (factCount m) n (recordIn m r n) ≡ none
+    clear : (n : ℕ) → n < length (judgedRecords r (sectionOf m r))
+        → numberIn (getD m 0 0) r (factCount m) n (recordIn m r n) ≡ none
     clear n h =
         let found = sym (reader-first (getD m 0 0) r (factCount m) (sectionOf m r)) ∙ fine in
-        rw zero-add at (passed-at (numberIn (getD m 0 0) r (factCount m)) 0 0 (judgedRecords r (sectionOf m r)) found n h)
+        let number = numberIn (getD m 0 0) r (factCount m) in
+        rw zero-add at (passed-at number 0 0 (judgedRecords r (sectionOf m r)) found n h)
 
 -- A model without a fault is right.
 pub right-model : (m : List ℕ) → shapeFault m ≡ none → RightModel m
@@ -49,7 +51,8 @@ right-model m fine = record {
 
 -- The fault of a section whose earlier ones are right is a cause for the model.
 module _ (m : List ℕ) (r : Role) (there : There m r) (before : RightBefore m r) (f : Fault) where
-  section-cause : placeOfRole m r ≤ length m → inSection (reader (getD m 0 0) r (factCount m)) m (placeOfRole m r) ≡ some f
+  section-cause : placeOfRole m r ≤ length m
+      → inSection (reader (getD m 0 0) r (factCount m)) m (placeOfRole m r) ≡ some f
       → Found m (ModelCause m) f
   section-cause low e =
       ⊎-elim
@@ -60,12 +63,14 @@ module _ (m : List ℕ) (r : Role) (there : There m r) (before : RightBefore m r
       moved-found m (placeOfRole m r) fit (ModelCause m) is (rw here at (inside fit g (rw (← here) at found))))
       (section-found (reader (getD m 0 0) r (factCount m)) m (placeOfRole m r) f e)
     where
-      inside : fits m (placeOfRole m r) ≡ true → (g : Fault) → reader (getD m 0 0) r (factCount m) (sectionOf m r) ≡ some g
+      inside : fits m (placeOfRole m r) ≡ true → (g : Fault)
+          → reader (getD m 0 0) r (factCount m) (sectionOf m r) ≡ some g
           → Found (sectionOf m r) (ModelCause m) g
       inside fit g found =
           let F = factCount m in
           let rs = judgedRecords r (sectionOf m r) in
-          let at = first-at (numberIn (getD m 0 0) r F) 0 0 rs g (sym (reader-first (getD m 0 0) r F (sectionOf m r)) ∙ found) in
+          let number = numberIn (getD m 0 0) r F in
+          let at = first-at number 0 0 rs g (sym (reader-first (getD m 0 0) r F (sectionOf m r)) ∙ found) in
           let n = at .index in
           let here : numberIn (getD m 0 0) r F n (getD rs n []) ≡ some (g .number) = rw zero-add at (at .refused) in
           let (is, within) = judged-placed r (sectionOf m r) n (at .there) in
@@ -84,7 +89,8 @@ module _ (m : List ℕ) (r : Role) (there : There m r) (before : RightBefore m r
 module _ (F : ℕ) (file : List ℕ) (f : Fault) where
   -- the sections of these roles, from section j on, have no fault before section i of them
   abbrev Clear : List Role → ℕ → ℕ → Type 0
-  Clear rs j i = (q : ℕ) → q < i → inSection (reader (getD file 0 0) (getD rs q Goals) F) file (sectionAt file (j + q)) ≡ none
+  Clear rs j i =
+      (q : ℕ) → q < i → inSection (reader (getD file 0 0) (getD rs q Goals) F) file (sectionAt file (j + q)) ≡ none
 
   -- there is the fault
   record Stop (rs : List Role) (j : ℕ) : Type 0 where
@@ -151,7 +157,8 @@ model-cause m some-byte f e = ⊎-elim there left (s .here)
         right-section m q fit (rw (section-there m q there-q) none-found)
 
     there : (s .index < length rs)
-        × (inSection (reader (getD m 0 0) (getD rs (s .index) Goals) (factCount m)) m (sectionAt m (0 + s .index)) ≡ some f)
+        × (inSection (reader (getD m 0 0) (getD rs (s .index) Goals) (factCount m)) m (sectionAt m (0 + s .index))
+        ≡ some f)
         → Found m (ModelCause m) f
     there (l, found) =
         let r = getD rs (s .index) Goals in

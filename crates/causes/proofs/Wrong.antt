@@ -147,7 +147,8 @@ module _ (number limit : ℕ) (bytes : List ℕ) (after : turn 4 < turn number) 
 
       small : {k : ℕ} → large ≡ false → k ≡ number → WrongNumbers number limit bytes k → ⊥
       small e is (WrongNumbers.shape h) = omega (arith, ap turn is)
-      small e is (WrongNumbers.large f i h) = fails e (any-intro (leb limit) (words bytes) f i (passes (le-leb limit f h)))
+      small e is (WrongNumbers.large f i h) =
+          fails e (any-intro (leb limit) (words bytes) f i (passes (le-leb limit f h)))
       small e is (WrongNumbers.order h) = omega (arith, ap turn is)
 
       next : {n : ℕ} → WrongNumbers number limit bytes n → turn 4 < turn n → (n ≡ number) ⊎ (turn number < turn n)

@@ -1,6 +1,6 @@
--- The causes of 2 to 9 and 12 in the words of document 01's table, each with its bytes at fault and with nothing there that
--- comes before it in the order ("Verdict numbers and the order", "the bytes at fault"). How a fault is looked for is
--- another definition, `pairFault`; proofs/Causes.antt shows that what it finds has its cause here.
+-- The causes of 2 to 9 and 12 in the words of document 01's table, each with its bytes at fault and with nothing there
+-- that comes before it in the order ("Verdict numbers and the order", "the bytes at fault"). How a fault is looked for
+-- is another definition, `pairFault`; proofs/Causes.antt shows that what it finds has its cause here.
 use Prim.Native.Nat.{ℕ, suc, _+_, _%_, _≤_, _<_}
 use mathlib.Core.Path.{_≡_}
 use mathlib.Core.Logic.{_⊎_}
@@ -29,7 +29,8 @@ pub data WrongSizes (bytes : List ℕ) : ℕ → Type 0 where
   shape : (length bytes ≡ 2 → ⊥) → WrongSizes bytes 4
   count : 4096 < word bytes → WrongSizes bytes 5
 
--- "initial facts: 2 bytes each", "strictly ascending", and none of them the limit or more, which has a number of its own
+-- "initial facts: 2 bytes each", "strictly ascending", and none of them the limit or more, which has a number of its
+-- own
 pub data WrongNumbers (number limit : ℕ) (bytes : List ℕ) : ℕ → Type 0 where
   shape : length bytes % 2 ≡ 1 → WrongNumbers number limit bytes 4
   large : (n : ℕ) → n ∈ words bytes → limit ≤ n → WrongNumbers number limit bytes number
@@ -43,11 +44,10 @@ WrongFacts F = WrongNumbers 6 F
 abbrev pub WrongNames : List ℕ → ℕ → Type 0
 WrongNames = WrongNumbers 12 1024
 
--- "a length or count that doesn't fit .. bytes left over": the record isn't its lists, written (proofs/Written.antt
--- has that: `rule-shape`, `maker-shape`, `goal-shape`, `clause-shape`); "a bound above passed" by its number or by one
--- of its lists;
--- "a fact number of F or more" in one of the first three; "a name over 1,023" in a fourth (document 02, wish 9); "a list
--- not strictly ascending"
+-- "a length or count that doesn't fit .. bytes left over": the record isn't its lists, written (proofs/Written.antt has
+-- that: `rule-shape`, `maker-shape`, `goal-shape`, `clause-shape`); "a bound above passed" by its number or by one of
+-- its lists; "a fact number of F or more" in one of the first three; "a name over 1,023" in a fourth (document 02, wish
+-- 9); "a list not strictly ascending"
 pub data WrongRecord (K : Kind) (most longest F n : ℕ) (r : List ℕ) : ℕ → Type 0 where
   shape : listsOf K r ≡ none → WrongRecord K most longest F n r 4
   count : most ≤ n → WrongRecord K most longest F n r 5
@@ -197,9 +197,9 @@ pub record RightHeads (m t : List ℕ) : Type 0 where
   pub trace : TraceStarts t
 
 -- the cause of a refusal: the mark of the file at fault (0 the model, 1 the trace), the number and the bytes. "2
--- (model, then trace); 3 (model, then trace); then 4 to 7 for the model .. Then 4 for the trace .., then 5, then 9", and
--- 12 with the model's (document 02, wish 9);
--- for 2 "the whole file", for 3 "the first byte, or the empty part of an empty file"
+-- (model, then trace); 3 (model, then trace); then 4 to 7 for the model .. Then 4 for the trace .., then 5, then 9",
+-- and 12 with the model's (document 02, wish 9); for 2 "the whole file", for 3 "the first byte, or the empty part of an
+-- empty file"
 pub data Cause (m t : List ℕ) : ℕ → ℕ → List ℕ → Type 0 where
   long-model : 65536 < length m → Cause m t 0 2 m
   long-trace : length m ≤ 65536 → 4096 < length t → Cause m t 1 2 t

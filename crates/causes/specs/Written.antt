@@ -56,8 +56,8 @@ unfoldable pub sectionBytes : List ℕ → List ℕ
 unfolding twoBytes
 sectionBytes bytes = twoBytes (length bytes / 65536) ++ twoBytes (length bytes % 65536) ++ bytes
 
--- "Model version 2 has one more section" (document 02, wish 2), version 3 "a section of names in use at the start, after
--- the persistent facts" (wish 9): the sections after the initial facts that version 1 lacks
+-- "Model version 2 has one more section" (document 02, wish 2), version 3 "a section of names in use at the start,
+-- after the persistent facts" (wish 9): the sections after the initial facts that version 1 lacks
 unfoldable pub laterSections : ℕ → Model → List ℕ
 unfolding sectionBytes factBytes
 laterSections version m =

@@ -138,9 +138,9 @@ stored = record {
   goals = goal (1 ∷ []) (0 ∷ []) ∷ [];
 }
 
--- "A rule fires only if all its names are unused; firing uses them, and nothing frees them." (document 02, wish 9): name
--- 5 is in use at the start. The first rule adds fact 1 and makes 7, the second makes 5, the third takes fact 0 away and
--- makes 3 and 7, the fourth asks for fact 1 and makes 5.
+-- "A rule fires only if all its names are unused; firing uses them, and nothing frees them." (document 02, wish 9):
+-- name 5 is in use at the start. The first rule adds fact 1 and makes 7, the second makes 5, the third takes fact 0
+-- away and makes 3 and 7, the fourth asks for fact 1 and makes 5.
 unfoldable pub named : Model
 named = record {
   F = 2;

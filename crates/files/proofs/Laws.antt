@@ -101,7 +101,8 @@ module _ (file : List ℕ) (fine : shapeFault file ≡ none) where
   pub persistent-ascending : ascending (words (sectionOf file Persistent)) ≡ true
   unfolding reader
   persistent-ascending =
-      bare-fine false (factCount file) (sectionOf file Persistent) (all-fine _ _ (judged-section file fine Persistent)) .1
+      bare-fine false (factCount file) (sectionOf file Persistent)
+      (all-fine _ _ (judged-section file fine Persistent)) .1
 
   -- The names in use at the start are known.
   pub names-known : KnownNames (sectionOf file Names)

@@ -105,7 +105,8 @@ module _ (m : List ℕ) (fine : shapeFault m ≡ none) where
           absurd (List·Memᴰ·not-nil (rw lacking at (subst (λ (r : List ℕ). f ∈ listOf K r 2) none here)))
 
   -- The lists of a rule's record fill it.
-  pub rule-record : {k : ℕ} → k < length (modelOf m .rules) → Cut (ruleKind (getD m 0 0)) (getD (records (sectionOf m Rules)) k [])
+  pub rule-record : {k : ℕ} → k < length (modelOf m .rules)
+      → Cut (ruleKind (getD m 0 0)) (getD (records (sectionOf m Rules)) k [])
   unfolding AllCut
   rule-record h = rules-cut m fine _ (record-in (records (sectionOf m Rules)) _ (rule-there m h))
 

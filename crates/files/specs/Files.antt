@@ -24,8 +24,8 @@ unfoldable pub since : ℕ → Role → ℕ → List Role
 since first r version = cond (leb first version) (r ∷ []) []
 
 -- "Model sections, in order: 1. sizes .. 2. initial facts .. 3. clauses; 4. rules; 5. attack states"; "Model version 2
--- has one more section after the initial facts: the persistent facts" (document 02, wish 2); "Model version 3 is version
--- 2 with a section of names in use at the start, after the persistent facts" (wish 9)
+-- has one more section after the initial facts: the persistent facts" (document 02, wish 2); "Model version 3 is
+-- version 2 with a section of names in use at the start, after the persistent facts" (wish 9)
 unfoldable pub roles : ℕ → List Role
 unfolding since
 roles version =

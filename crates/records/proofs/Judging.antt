@@ -50,7 +50,8 @@ alike row others (suc k) zero h = refl
 alike row others (suc k) (suc j) h = rw suc-add (alike row others k j (le-of-suc-le-suc h))
 
 -- a fourth list has names
-pub fourth : (K : Kind) (F j : ℕ) → j < length (rows K F) → 3 ≤ j → drop j (rows K F) ≡ nameRow ∷ drop (j + 1) (rows K F)
+pub fourth : (K : Kind) (F j : ℕ) → j < length (rows K F) → 3 ≤ j
+    → drop j (rows K F) ≡ nameRow ∷ drop (j + 1) (rows K F)
 unfolding rows
 fourth Clause F j h l = absurd (omega arith)
 fourth Rule F j h l = absurd (omega arith)

@@ -1,5 +1,5 @@
--- `records::look` meets its contract. The loop's invariant: the last number and those still to come tell the largest and
--- the order of the whole list.
+-- `records::look` meets its contract. The loop's invariant: the last number and those still to come tell the largest
+-- and the order of the whole list.
 use Prim.Native.Nat.{ℕ, _+_, _-_, _≤_}
 use mathlib.Core.Path.{_≡_, refl, sym, ap, _∙_}
 use mathlib.Core.Bool.{false, not, or-false}

@@ -49,8 +49,8 @@ unfolding ruleIn
 returns-2 c =
     let start = c .before .before .before .before .before in
     let rule = now (start .args .rule) in
-    let bytes =
-    subst (λ (K : Kind). ListBytes K rule 3 (now (c .list-of .result))) (sym (makers (c .before))) (c .list-of .ensures) in
+    let these = now (c .list-of .result) in
+    let bytes = subst (λ (K : Kind). ListBytes K rule 3 these) (sym (makers (c .before))) (c .list-of .ensures) in
     (bytes .facts, made-known (now (start .args .model)) (start .pre .0) rule (start .pre .1) bytes)
 
 pub made-spec : {M : Type 1} → statement M

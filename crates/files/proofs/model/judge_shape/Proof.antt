@@ -56,7 +56,8 @@ module _ (c : tie.After-judge-section Inv-loop μ-loop) where
   unfolding rolesOf
   role-is = rw (← version-is loop) (c .before .role-at .ensures)
 
-  section-is : c .judge-section .result ≡ passed (inSection (reader (getD (file loop) 0 0) role facts) (file loop) (loop .loop .at))
+  section-is : c .judge-section .result
+      ≡ passed (inSection (reader (getD (file loop) 0 0) role facts) (file loop) (loop .loop .at))
       (endAt (file loop) (loop .loop .at)) (entries role (payload (file loop) (loop .loop .at)))
   section-is = rw role-is at (c .judge-section .ensures)
 

@@ -133,7 +133,7 @@ pub record Kinds (m t : List ℕ) (v : Verdict) : Type 0 where
 
 -- ---- names (document 02, wish 9)
 
--- "Firing uses them, and nothing frees them.": no two of these steps make the same name, and none makes one that is in
+-- "firing uses them, and nothing frees them.": no two of these steps make the same name, and none makes one that is in
 -- use at the start
 pub record FreshSteps (m : Model) (ks : List ℕ) : Type 0 where
   pub once : (n i j : ℕ) → Makes m ks i n → Makes m ks j n → i ≡ j

@@ -163,7 +163,7 @@ pub record Left (m : Model) (o : Outcome) (before after : Lent) : Type 0 where
   pub names-kept : Kept 128 (before .names) (after .names)
   pub rounds : Filled (m .clauses) (o .state .facts) (before .table) (after .table)
 
--- "1 to 9 change nothing."; 12 "is as 6 in all else"
+-- "1 to 9 change nothing."; so does 12, a refusal of the model as they are
 unfoldable pub Buffers : List ℕ → List ℕ → Option Verdict → Lent → Lent → Type 0
 unfolding modelOf outcome
 Buffers m t (some v) before after = after ≡ before

@@ -47,7 +47,7 @@ unmetOf m S r = unmet (closure (m .clauses) (S .facts)) (S .names) (conditions (
 -- ---- the steps
 
 -- "A step removes from the state only those of P that aren't persistent, and stores nothing else but A." (document 02,
--- wish 2; with no persistent facts it is document 01's "(S without P) together with A"). "Firing uses them, and nothing
+-- wish 2; with no persistent facts it is document 01's "(S without P) together with A"). "firing uses them, and nothing
 -- frees them." (wish 9)
 unfoldable pub after : List ℕ → Rule → State → State
 unfolding listed

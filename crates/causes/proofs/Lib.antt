@@ -1,3 +1,4 @@
+pub mod First
 pub mod Wrong
 pub mod Found
 pub mod Named

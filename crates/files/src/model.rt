@@ -84,14 +84,11 @@ pub fn tag_of(role: Role) -> usize
 fn note(mut counts: Counts, role: Role, count: usize) -> Counts
     ensures { λ r. ⌜ r ≡ noted counts role count ⌝ }
 {
-    match role {
-        Role::Clauses => counts.clauses = count,
-        Role::Rules => counts.rules = count,
-        Role::Goals => counts.goals = count,
-        Role::Sizes => {}
-        Role::Initial => {}
-        Role::Persistent => {}
-        Role::Names => {}
+    match tag_of(role) {
+        4 => counts.clauses = count,
+        5 => counts.rules = count,
+        6 => counts.goals = count,
+        _ => {}
     }
     counts
 }

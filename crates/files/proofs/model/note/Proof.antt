@@ -1,73 +1,51 @@
--- `model::note` meets its contract: one case for each role.
-use Rattle.files.specs.Answers.{noted}
+-- `model::note` meets its contract: the sections of records are counted, and no others.
+use Prim.Native.Nat.{ℕ}
+use mathlib.Core.Path.{_≡_, refl, sym, _∙_}
 use borrow.Author.Needs.{needs}
+use Rattle.sections.specs.declared.Role.{Role}
+use Rattle.sections.specs.declared.Role.the-variants.{Sizes, Initial, Persistent, Names, Clauses, Rules, Goals}
+use Rattle.files.specs.Files.{tag}
+use Rattle.files.specs.Answers.{noted}
+use Rattle.files.specs.declared.Counts.{Counts}
+use Rattle.files.proofs.Roles.{same-role}
 use Rattle.files.proofs.model.note.Statement.{statement}
 use Rattle.files.proofs.model.note.Tie as tie
 
-enum-told : tie.Need-enum-told
-enum-told c = search needs
+-- A section that isn't one of records leaves the counts.
+not-counted : (n : Counts) (k : ℕ) (r : Role) → (tag r ≡ 4 → ⊥) → (tag r ≡ 5 → ⊥) → (tag r ≡ 6 → ⊥) → noted n r k ≡ n
+unfolding tag noted
+not-counted n k Sizes a b c = refl
+not-counted n k Initial a b c = refl
+not-counted n k Persistent a b c = refl
+not-counted n k Names a b c = refl
+not-counted n k Clauses a b c = absurd (a refl)
+not-counted n k Rules a b c = absurd (b refl)
+not-counted n k Goals a b c = absurd (c refl)
 
-enum-told-2 : tie.Need-enum-told-2
-enum-told-2 c = search needs
+tag-of-requires : tie.Need-tag-of-requires
+tag-of-requires c κs = search needs
 
-enum-told-3 : tie.Need-enum-told-3
-enum-told-3 c = search needs
-
-enum-told-4 : tie.Need-enum-told-4
-enum-told-4 c = search needs
-
-enum-told-5 : tie.Need-enum-told-5
-enum-told-5 c = search needs
-
-enum-told-6 : tie.Need-enum-told-6
-enum-told-6 c = search needs
-
-enum-told-7 : tie.Need-enum-told-7
-enum-told-7 c = search needs
+-- the role whose number is at hand
+role-is : (c : tie.After-tag-of) (r : Role) → c .tag-of .result ≡ tag r → c .before .args .role ≡ r
+role-is c r e = same-role _ r (sym (c .tag-of .ensures) ∙ e)
 
 returns : tie.Need-returns
-unfolding noted
-returns c = rw (c .enum-told .given .1)
+unfolding tag noted
+returns c = let is : _ ≡ Clauses = role-is (c .before) Clauses (c .match .keys1) in rw is
 
 returns-2 : tie.Need-returns-2
-unfolding noted
-returns-2 c = rw (c .enum-told2 .given .1)
+unfolding tag noted
+returns-2 c = let is : _ ≡ Rules = role-is (c .before) Rules (c .match .keys2) in rw is
 
 returns-3 : tie.Need-returns-3
-unfolding noted
-returns-3 c = rw (c .enum-told3 .given .1)
+unfolding tag noted
+returns-3 c = let is : _ ≡ Goals = role-is (c .before) Goals (c .match .keys3) in rw is
 
 returns-4 : tie.Need-returns-4
-unfolding noted
-returns-4 c = rw (c .enum-told4 .given .1)
-
-returns-5 : tie.Need-returns-5
-unfolding noted
-returns-5 c = rw (c .enum-told5 .given .1)
-
-returns-6 : tie.Need-returns-6
-unfolding noted
-returns-6 c = rw (c .enum-told6 .given .1)
-
-returns-7 : tie.Need-returns-7
-unfolding noted
-returns-7 c = rw (c .enum-told7 .given .1)
+returns-4 c =
+    let n = c .before .tag-of .ensures in
+    let others = c .match .rest in
+    sym (not-counted _ _ _ (λ e. others .0 .0 .1 (n ∙ e)) (λ e. others .0 .1 (n ∙ e)) (λ e. others .1 (n ∙ e)))
 
 pub note-spec : {M : Type 1} → statement M
-note-spec =
-    tie.close
-    (tie.spec
-    enum-told
-    enum-told-2
-    enum-told-3
-    enum-told-4
-    enum-told-5
-    enum-told-6
-    enum-told-7
-    returns
-    returns-2
-    returns-3
-    returns-4
-    returns-5
-    returns-6
-    returns-7)
+note-spec = tie.close (tie.spec tag-of-requires returns returns-2 returns-3 returns-4)

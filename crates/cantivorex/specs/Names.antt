@@ -12,8 +12,8 @@ unfoldable pub ascii : String → List ℕ
 ascii ended = []
 ascii (c then s) = code c ∷ ascii s
 
--- the column "name" of document 01's table, from number 0 on; 8 is never given and has none. 12 and 13 are document
--- 02's (wish 9)
+-- the column "name" of document 01's table, from number 0 on; 8 is never given and has none, nor have 14 to 16. 12 and
+-- 13 (wish 9) and 17 (wish 11) are document 02's
 unfoldable pub names : List (List ℕ)
 unfolding ascii
 names =
@@ -31,6 +31,10 @@ names =
     ∷ ascii "NOATTACK"
     ∷ ascii "BADNAME"
     ∷ ascii "USED"
+    ∷ []
+    ∷ []
+    ∷ []
+    ∷ ascii "FORMULA"
     ∷ []
 
 -- the name of a number

@@ -136,6 +136,10 @@ fn name_of(number: u8) -> Word
             bytes: *b"USED    ",
             size: 4,
         },
+        17 => Word {
+            bytes: *b"FORMULA ",
+            size: 7,
+        },
         _ => Word {
             bytes: *b"        ",
             size: 0,

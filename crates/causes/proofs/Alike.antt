@@ -4,7 +4,7 @@ use mathlib.Core.Path.{_≡_, refl, sym, ap, _∙_}
 use mathlib.Core.List.{List}
 use mathlib.Core.Option.{Option, none, some, Option·map}
 use lib.ListN.{length}
-use Rattle.meaning.specs.Model.{Model}
+use Rattle.meaning.specs.Model.{Model, aims}
 use Rattle.records.specs.Records.{_orElse_}
 use Rattle.sections.specs.Sections.{tooLong, wrongVersion}
 use Rattle.sections.proofs.Fits.{neither}
@@ -16,7 +16,7 @@ use Rattle.files.specs.Files.Blamed.{trace}
 abbrev traceAlone : Model → List ℕ → Option Blamed
 traceAlone M t =
     (Option·map trace (tooLong traceBytes t) orElse Option·map trace (wrongVersion traceVersion t))
-    orElse Option·map trace (traceFault (length (M .goals)) (length (M .rules)) t)
+    orElse Option·map trace (traceFault (length (aims M)) (length (M .rules)) t)
 
 trace-alone : (m t : List ℕ) → modelFault m ≡ none → pairFault m t ≡ traceAlone (modelOf m) t
 unfolding modelFault pairFault filesFault headsFault _orElse_

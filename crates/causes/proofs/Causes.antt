@@ -33,20 +33,22 @@ use Rattle.files.proofs.Traces.{file-then, not-long, fine-pair, trace-goal-know
 abbrev UpTo : ℕ → List ℕ → Type 0
 UpTo latest versions = (v : ℕ) → (v ∈ versions) ↔ ((1 ≤ v) × (v ≤ latest))
 
-pub model-versions : UpTo modelVersion (1 ∷ 2 ∷ 3 ∷ [])
+pub model-versions : UpTo modelVersion (1 ∷ 2 ∷ 3 ∷ 4 ∷ [])
 model-versions v = (known, listed v)
   where
-    known : {v : ℕ} → v ∈ 1 ∷ 2 ∷ 3 ∷ [] → (1 ≤ v) × (v ≤ 3)
+    known : {v : ℕ} → v ∈ 1 ∷ 2 ∷ 3 ∷ 4 ∷ [] → (1 ≤ v) × (v ≤ 4)
     known (List·Memᴰ·head e) = (omega arith, omega arith)
     known (List·Memᴰ·tail (List·Memᴰ·head e)) = (omega arith, omega arith)
     known (List·Memᴰ·tail (List·Memᴰ·tail (List·Memᴰ·head e))) = (omega arith, omega arith)
+    known (List·Memᴰ·tail (List·Memᴰ·tail (List·Memᴰ·tail (List·Memᴰ·head e)))) = (omega arith, omega arith)
 
-    listed : (v : ℕ) → (1 ≤ v) × (v ≤ 3) → v ∈ 1 ∷ 2 ∷ 3 ∷ []
+    listed : (v : ℕ) → (1 ≤ v) × (v ≤ 4) → v ∈ 1 ∷ 2 ∷ 3 ∷ 4 ∷ []
     listed zero (low, high) = absurd (omega arith)
     listed (suc zero) h = List·Memᴰ·head refl
     listed (suc (suc zero)) h = List·Memᴰ·tail (List·Memᴰ·head refl)
     listed (suc (suc (suc zero))) h = List·Memᴰ·tail (List·Memᴰ·tail (List·Memᴰ·head refl))
-    listed (suc (suc (suc (suc v)))) (low, high) = absurd (omega arith)
+    listed (suc (suc (suc (suc zero)))) h = List·Memᴰ·tail (List·Memᴰ·tail (List·Memᴰ·tail (List·Memᴰ·head refl)))
+    listed (suc (suc (suc (suc (suc v))))) (low, high) = absurd (omega arith)
 
 pub trace-versions : UpTo traceVersion (1 ∷ [])
 trace-versions v = (known, listed v)
@@ -181,10 +183,11 @@ within-refusing : {k : ℕ} → Within k → Refusing k × (k ≡ 8 → ⊥)
 within-refusing Within.shape = (inl (omega arith, omega arith), λ e. omega arith)
 within-refusing Within.count = (inl (omega arith, omega arith), λ e. omega arith)
 within-refusing Within.fact = (inl (omega arith, omega arith), λ e. omega arith)
-within-refusing Within.name = (inr refl, λ e. omega arith)
+within-refusing Within.name = (inr (inl refl), λ e. omega arith)
 within-refusing Within.order = (inl (omega arith, omega arith), λ e. omega arith)
+within-refusing Within.formula = (inr (inr refl), λ e. omega arith)
 
--- The number of a cause is one of 2 to 9 or 12, and never 8.
+-- The number of a cause is one of 2 to 9, 12 or 17, and never 8.
 pub cause-range : {m t : List ℕ} {mark k : ℕ} {bytes : List ℕ} → Cause m t mark k bytes → Refusing k × (k ≡ 8 → ⊥)
 cause-range (Cause.long-model h) = (inl (omega arith, omega arith), λ e. omega arith)
 cause-range (Cause.long-trace h l) = (inl (omega arith, omega arith), λ e. omega arith)
@@ -203,7 +206,7 @@ cause-range (Cause.in-trace h r c) = trace-range c
 
 -- ---- a model by itself
 
--- Its fault is its size, its version, or a cause of 4 to 7 or 12.
+-- Its fault is its size, its version, or a cause of 4 to 7, 12 or 17.
 pub alone-cause : (m : List ℕ) (C : ℕ → Type 0) → (65536 < length m → C 2)
     → (length m ≤ 65536 → (ModelStarts m → ⊥) → C 3)
     → ((k : ℕ) (bytes : List ℕ) → length m ≤ 65536 → ModelStarts m → ModelCause m k bytes → C k)
@@ -219,7 +222,7 @@ alone-cause m C long version wrong f e =
     wrong _ _ size first (model-cause m (starts-byte _ m first) f e .cause))
     (either-found (wrongVersion modelVersion m) _ f e)) (either-found (tooLong modelBytes m) _ f e)
 
--- The number is one of 2 to 9 or 12, and never 8.
+-- The number is one of 2 to 9, 12 or 17, and never 8.
 pub model-fault-range : (m : List ℕ) (f : Fault) → modelFault m ≡ some f
     → Refusing (f .number) × (f .number ≡ 8 → ⊥)
 model-fault-range m =

@@ -1,5 +1,5 @@
--- Laws on what is wrong first, by the passes over a record: a chain of tests in the order of its numbers, and with it the
--- sizes and bare numbers.
+-- Laws on what is wrong first, by the passes over a record: a chain of tests in the order of its numbers, and with it
+-- the sizes and bare numbers.
 use Prim.Native.Nat.{ℕ, zero, suc, _≤_, _<_}
 use mathlib.Core.Path.{_≡_, refl, ap, _∙_}
 use mathlib.Core.Logic.{_⊎_, inl, inr, ⊎-elim}

@@ -20,6 +20,7 @@ use Rattle.records.proofs.Places.{place-record, place-le}
 use Rattle.sections.specs.Sections.{long, endAt, fits, payload, restFault, moved, inSection, allOf, sizes, reader}
 use Rattle.sections.specs.declared.Role.{Role}
 use Rattle.sections.specs.declared.Role.the-variants.{Sizes, Initial, Persistent, Names, Clauses, Rules, Goals}
+use Rattle.sections.specs.declared.Role.the-variants.{Formulas}
 use Rattle.sections.proofs.Parts.{fit-ended, ended-size, within-fits}
 use Rattle.sections.proofs.Fits.{fits-within}
 use Rattle.causes.specs.Causes.{judgedRecords, Fits}
@@ -207,6 +208,7 @@ judged-placed Names bytes = whole-placed bytes
 judged-placed Clauses bytes = record-placed bytes
 judged-placed Rules bytes = record-placed bytes
 judged-placed Goals bytes = record-placed bytes
+judged-placed Formulas bytes = record-placed bytes
 
 -- A number for all of some bytes is that of the only record.
 all-first : (find : List ℕ → Option ℕ) (bytes : List ℕ)
@@ -230,3 +232,4 @@ reader-first version Names F bytes = all-first (bare true 1024) bytes
 reader-first version Clauses F bytes = refl
 reader-first version Rules F bytes = refl
 reader-first version Goals F bytes = refl
+reader-first version Formulas F bytes = refl

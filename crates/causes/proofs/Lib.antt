@@ -1,4 +1,5 @@
 pub mod First
+pub mod Formulas
 pub mod Wrong
 pub mod Found
 pub mod Named

@@ -14,7 +14,7 @@ use Rattle.records.specs.declared.Fault.{Fault}
 use Rattle.lists.proofs.Laws.{passed-at}
 use Rattle.sections.specs.Sections.{sectionAt, fits, inSection, leftOver, reader}
 use Rattle.sections.specs.declared.Role.{Role}
-use Rattle.sections.specs.declared.Role.the-variants.{Goals}
+use Rattle.sections.specs.declared.Role.the-variants.{Formulas}
 use Rattle.sections.proofs.Fits.{fits-within, section-fine}
 use Rattle.files.specs.Files.{rolesOf, indexOf, placeOfRole, sectionOf, factCount, faultFrom, shapeFault}
 use Rattle.files.specs.Files.{There}
@@ -90,14 +90,14 @@ module _ (F : ℕ) (file : List ℕ) (f : Fault) where
   -- the sections of these roles, from section j on, have no fault before section i of them
   abbrev Clear : List Role → ℕ → ℕ → Type 0
   Clear rs j i =
-      (q : ℕ) → q < i → inSection (reader (getD file 0 0) (getD rs q Goals) F) file (sectionAt file (j + q)) ≡ none
+      (q : ℕ) → q < i → inSection (reader (getD file 0 0) (getD rs q Formulas) F) file (sectionAt file (j + q)) ≡ none
 
   -- there is the fault
   record Stop (rs : List Role) (j : ℕ) : Type 0 where
     index : ℕ
     clear : Clear rs j index
     here : ((index < length rs)
-        × (inSection (reader (getD file 0 0) (getD rs index Goals) F) file (sectionAt file (j + index)) ≡ some f))
+        × (inSection (reader (getD file 0 0) (getD rs index Formulas) F) file (sectionAt file (j + index)) ≡ some f))
         ⊎ ((index ≡ length rs) × (leftOver file (sectionAt file (j + index)) ≡ some f))
 
   stops : (rs : List Role) (j : ℕ) → faultFrom rs F file (sectionAt file j) ≡ some f → Stop rs j
@@ -122,7 +122,7 @@ module _ (F : ℕ) (file : List ℕ) (f : Fault) where
         where
           passed : inSection (reader (getD file 0 0) r F) file (sectionAt file j) ≡ none → {i : ℕ} (q : ℕ) → q < suc i
               → Clear rs (suc j) i
-              → inSection (reader (getD file 0 0) (getD (r ∷ rs) q Goals) F) file (sectionAt file (j + q)) ≡ none
+              → inSection (reader (getD file 0 0) (getD (r ∷ rs) q Formulas) F) file (sectionAt file (j + q)) ≡ none
           passed fine zero l clear = rw (add-zero j) fine
           passed fine (suc q) l clear =
               let same : j + suc q ≡ suc j + q = omega arith in
@@ -135,7 +135,8 @@ unfolding sectionAt
 reached m f some-byte zero clear = some-byte
 reached m f some-byte (suc i) clear =
     let fine = rw zero-add at (clear i (omega arith)) in
-    let (fit, _) = section-fine (reader (getD m 0 0) (getD (rolesOf m) i Goals) (factCount m)) m (sectionAt m i) fine in
+    let r = getD (rolesOf m) i Formulas in
+    let (fit, _) = section-fine (reader (getD m 0 0) r (factCount m)) m (sectionAt m i) fine in
     fits-within m (sectionAt m i) fit .1
 
 -- The fault of a model that has a byte has its cause.
@@ -157,11 +158,11 @@ model-cause m some-byte f e = ⊎-elim there left (s .here)
         right-section m q fit (rw (section-there m q there-q) none-found)
 
     there : (s .index < length rs)
-        × (inSection (reader (getD m 0 0) (getD rs (s .index) Goals) (factCount m)) m (sectionAt m (0 + s .index))
+        × (inSection (reader (getD m 0 0) (getD rs (s .index) Formulas) (factCount m)) m (sectionAt m (0 + s .index))
         ≡ some f)
         → Found m (ModelCause m) f
     there (l, found) =
-        let r = getD rs (s .index) Goals in
+        let r = getD rs (s .index) Formulas in
         let is : indexOf r rs ≡ s .index = role-at (getD m 0 0) (s .index) l in
         let place : placeOfRole m r ≡ sectionAt m (s .index) = rw is in
         let there-r : There m r = omega arith in

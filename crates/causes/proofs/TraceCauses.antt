@@ -12,6 +12,7 @@ use lib.ListN.{length, take, drop, getD}
 use lib.Seq.{take-length}
 use Rattle.sets.specs.Sets.{first}
 use Rattle.sets.proofs.Laws.{is-true, passes, either, below-or-from, first-hit, first-before}
+use Rattle.meaning.specs.Model.{aims}
 use Rattle.records.specs.Words.{word, words, odd}
 use Rattle.records.specs.declared.Fault.{Fault}
 use Rattle.records.proofs.Words.{words-two, length-words, odd-length, even-length}
@@ -124,7 +125,7 @@ module _ (m t : List ℕ) where
 
         -- an entry names what the model lacks
         abbrev lacksIn : List ℕ → ℕ → Bool
-        lacksIn = lacks (length (modelOf m .goals)) (length (modelOf m .rules))
+        lacksIn = lacks (length (aims (modelOf m))) (length (modelOf m .rules))
 
         entry-cause : (bytes : List ℕ) (i : ℕ) → i < suc (length (traceOf t .steps)) → length bytes ≡ 2
             → word bytes ≡ getD (traceOf t .goal ∷ traceOf t .steps) i 0
@@ -138,11 +139,11 @@ module _ (m t : List ℕ) where
             (λ j h. leb-false _ _ (earlier (suc j) (omega arith))) (leb-true _ _ here) size is
 
         name-cause : (f : Fault)
-            → inSection (traceNames (length (modelOf m .goals)) (length (modelOf m .rules))) t 1 ≡ some f
+            → inSection (traceNames (length (aims (modelOf m))) (length (modelOf m .rules))) t 1 ≡ some f
             → Found t (TraceCause m t) f
         unfolding entriesOf sectionAt traceNames traceOf
         name-cause f e =
-            let goals = length (modelOf m .goals) in
+            let goals = length (aims (modelOf m)) in
             let rules = length (modelOf m .rules) in
             let bytes = payload t 1 in
             fit-found (traceNames goals rules) t 1 (TraceCause m t) f fit e
@@ -164,7 +165,7 @@ module _ (m t : List ℕ) where
 
 -- The fault of a trace that has a byte has its cause.
 pub trace-cause : (m t : List ℕ) → 1 ≤ length t → (f : Fault)
-    → traceFault (length (modelOf m .goals)) (length (modelOf m .rules)) t ≡ some f
+    → traceFault (length (aims (modelOf m))) (length (modelOf m .rules)) t ≡ some f
     → Found t (TraceCause m t) f
 unfolding traceFault sectionAt
 trace-cause m t h f e =

@@ -1,4 +1,5 @@
--- A record whose shape is right is the bytes of its lists, written out (specs/Written).
+-- A record whose shape is right is the bytes of its lists, written out (specs/Written), and one that is a formula those
+-- of its codes.
 use Prim.Native.Nat.{ℕ, zero, suc, _+_, _*_, _/_, _%_, _≤_, _<_}
 use mathlib.Core.Path.{_≡_, refl, sym, ap, _∙_}
 use mathlib.Core.Logic.{_↔_, ⊎-elim}
@@ -13,18 +14,23 @@ use lib.Seq.{take-at, drop-at, drop-drop, take-add, length-take-le, getD-drop, g
 use borrow.Author.Tests.{leb-true, leb-false, ltb-false, le-ltb, eqb-true, eqb-false, ne-eqb}
 use Rattle.sets.proofs.Laws.{by-test, below-or-from}
 use Rattle.meaning.specs.Model.{Clause, Rule, Goal}
+use Rattle.meaning.specs.Past.{Formula}
 use Rattle.records.specs.Words.{word, words, odd}
-use Rattle.records.specs.Records.{cutLists, cutClause, cut, listsOf, listOf}
+use Rattle.records.specs.Codes.{isFormula}
+use Rattle.records.specs.Records.{cutLists, cutClause, cut, listsOf, listOf, codesIn}
 use Rattle.records.specs.declared.Kind.{Kind}
 use Rattle.records.specs.declared.Kind.the-variants as kind
-use Rattle.records.proofs.Words.{length-words, odd-is, words-two}
+use Rattle.records.proofs.Words.{length-words, odd-is, odd-length, words-two}
 use Rattle.records.proofs.Judging.{lists-cut, lists-none, or-clear}
 use Rattle.records.proofs.Lists.{cut-next, cut-short}
 use Rattle.lists.specs.Lists.{Cut}
+use Rattle.formulas.specs.Codes.{codesOf, depth, FactsBelow, formulaOf}
+use Rattle.formulas.proofs.Laws.{formula-exactly, formula-is}
 use Rattle.sections.specs.Sections.{ruleKind}
-use Rattle.files.specs.Files.{clauseOf, ruleIn, goalIn}
+use Rattle.files.specs.Files.{clauseOf, ruleIn, goalIn, formulaIn}
+use Rattle.causes.specs.Causes.{WrongFormula}
 use Rattle.causes.specs.Written.{twoBytes, factBytes, listBytes, recordBytes, clauseBytes, ruleBytes, makerBytes}
-use Rattle.causes.specs.Written.{goalBytes}
+use Rattle.causes.specs.Written.{goalBytes, formulaBytes}
 
 -- each is a byte
 abbrev pub AllBytes : List ℕ → Type 0
@@ -226,6 +232,14 @@ module _ (r : List ℕ) (b : AllBytes r) where
       ap (λ (l : List ℕ). recordBytes (factBytes l)) facts
       ∙ ap recordBytes (facts-written (drop 2 r) (bytes-drop 2 r b) even) ∙ record-written r b whole
 
+  -- So is a formula's, whose codes are one.
+  pub formula-written : length r ≡ 2 + word r → odd (drop 2 r) ≡ false → isFormula (codesIn r) ≡ true
+      → formulaBytes (formulaIn r) ≡ r
+  unfolding codesIn formulaIn formulaBytes
+  formula-written whole even codes =
+      ap (λ (l : List ℕ). recordBytes (factBytes l)) (sym (formula-is (codesIn r) codes .codes))
+      ∙ ap recordBytes (facts-written (drop 2 r) (bytes-drop 2 r b) even) ∙ record-written r b whole
+
 -- ---- what is written is read
 
 -- A number's two bytes are that number.
@@ -329,6 +343,19 @@ clause-lists c =
     lists-cut kind.Clause (recordBytes bytes) (record-read bytes) ∙ ap (cut kind.Clause) (record-bytes bytes)
     ∙ clause-read bytes (c .head) (c .body) even (omega arith) (facts-read (c .head ∷ c .body))
 
+-- A formula's codes are those that were written.
+formula-codes : (φ : Formula) → codesIn (formulaBytes φ) ≡ codesOf φ
+unfolding codesIn formulaBytes
+formula-codes φ = ap words (record-bytes (factBytes (codesOf φ))) ∙ facts-read (codesOf φ)
+
+formula-fits : (φ : Formula) → length (formulaBytes φ) ≡ 2 + word (formulaBytes φ)
+unfolding formulaBytes
+formula-fits φ = record-read (factBytes (codesOf φ))
+
+formula-even : (φ : Formula) → length (formulaBytes φ) % 2 ≡ 0
+unfolding formulaBytes recordBytes twoBytes
+formula-even φ = omega (arith, facts-length (codesOf φ))
+
 -- ---- a record's shape is right exactly if it is a record written
 
 module _ (r : List ℕ) (b : AllBytes r) where
@@ -347,3 +374,32 @@ module _ (r : List ℕ) (b : AllBytes r) where
   pub clause-shape : Cut kind.Clause r ↔ ((x : Clause) × (clauseBytes x ≡ r))
   unfolding Cut
   clause-shape = (λ c. (clauseOf r, clause-written r b c), λ (x, e). (_, rw e at (clause-lists x)))
+
+  -- A formula's record is neither SHAPE nor FORMULA exactly if it is a formula written, of facts below 32,768 and at
+  -- most 32 deep.
+  pub formula-shape : (F n : ℕ) → ((WrongFormula F n r 4 → ⊥) × (WrongFormula F n r 17 → ⊥))
+      ↔ ((φ : Formula) × (depth φ ≤ 32) × FactsBelow 32768 φ × (formulaBytes φ ≡ r))
+  unfolding formulaIn
+  formula-shape F n = (right, λ (φ, deep, facts, e). (shaped φ e, formed φ deep facts e))
+    where
+      right : (WrongFormula F n r 4 → ⊥) × (WrongFormula F n r 17 → ⊥)
+          → (φ : Formula) × (depth φ ≤ 32) × FactsBelow 32768 φ × (formulaBytes φ ≡ r)
+      right (shape, form) =
+          by-test (eqb (length r) (2 + word r))
+          (λ t. by-test (odd (drop 2 r))
+          (λ o. absurd (shape (WrongFormula.shape (omega (arith, odd-length (drop 2 r) o, length-drop 2 r)))))
+          (λ even. by-test (isFormula (codesIn r))
+          (λ is.
+          let w = formula-is (codesIn r) is in
+          (formulaOf (codesIn r), w .deep, w .facts, formula-written r b (eqb-true _ _ t) even is))
+          (λ other. absurd (form (WrongFormula.formula
+          (λ φ w. true≢false (sym (formula-exactly (codesIn r) .1 (φ, w)) ∙ other)))))))
+          (λ t. absurd (shape (WrongFormula.unfit (eqb-false _ _ t))))
+
+      shaped : (φ : Formula) → formulaBytes φ ≡ r → WrongFormula F n r 4 → ⊥
+      shaped φ e (WrongFormula.unfit h) = h (rw e at (formula-fits φ))
+      shaped φ e (WrongFormula.shape h) = omega (arith, rw e at (formula-even φ))
+
+      formed : (φ : Formula) → depth φ ≤ 32 → FactsBelow 32768 φ → formulaBytes φ ≡ r → WrongFormula F n r 17 → ⊥
+      formed φ deep facts e (WrongFormula.formula h) =
+          h φ (record { codes = rw e at (formula-codes φ); deep = deep; facts = facts })

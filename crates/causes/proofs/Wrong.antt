@@ -3,8 +3,8 @@
 use Prim.Native.Nat.{ℕ, _≤_, _<_}
 use mathlib.Core.Path.{_≡_, refl, sym, ap, subst, _∙_}
 use mathlib.Core.Logic.{_⊎_, inl, inr, ⊎-elim}
-use mathlib.Core.Bool.{Bool, true, false, true≢false, not, _||_}
-use mathlib.Core.List.{List, [], _∷_}
+use mathlib.Core.Bool.{Bool, true, false, not, _||_}
+use mathlib.Core.List.{List}
 use mathlib.Core.Option.{Option, none, some}
 use native.Mathlib.Omega.{arith}
 use lib.Dec.{leb, ltb, lit<}
@@ -13,17 +13,20 @@ use borrow.Author.Tests.{leb-true, ltb-true, le-leb, lt-leb, lt-ltb, not-true}
 use Rattle.sets.specs.Sets.{any, _∈_}
 use Rattle.sets.proofs.Laws.{is-true, passes, fails, by-test, either, below-or-from, any-in, any-intro}
 use Rattle.records.specs.Words.{ascending}
-use Rattle.records.specs.Records.{given, _orElse_, listsOf, most, judge, bare}
+use Rattle.records.specs.Records.{given, _orElse_, listsOf, most, judgeLists, judge, bare}
+use Rattle.records.proofs.Judging.{judge-lists, judge-formula}
 use Rattle.lists.proofs.Rows.{longest, asked}
 use Rattle.records.specs.declared.Kind.{Kind}
 use Rattle.records.specs.declared.Kind.the-variants as kind
 use Rattle.sections.specs.Sections.{sizes, ruleKind}
 use Rattle.sections.specs.declared.Role.{Role}
 use Rattle.sections.specs.declared.Role.the-variants.{Sizes, Initial, Persistent, Names, Clauses, Rules, Goals}
-use Rattle.causes.specs.Causes.{WrongSizes, WrongNumbers, WrongFacts, WrongNames, WrongRecord, RuleKind}
-use Rattle.causes.specs.Causes.{Wrong, passes as inTurn, turn}
+use Rattle.sections.specs.declared.Role.the-variants.{Formulas}
+use Rattle.causes.specs.Causes.{WrongSizes, WrongNumbers, WrongFacts, WrongNames, WrongRecord, WrongFormula}
+use Rattle.causes.specs.Causes.{RuleKind, Wrong, passes as inTurn, turn}
 use Rattle.causes.proofs.First.{unordered, ordered, First, first-last, first-next, sizes-first, facts-first}
 use Rattle.causes.proofs.First.{names-first}
+use Rattle.causes.proofs.Formulas.{formula-first}
 
 -- ---- records
 
@@ -150,16 +153,17 @@ module _ (K : Kind) (F n : ℕ) (r : List ℕ) where
         (((WrongRecord.order cut l i (unordered l (not-true _ (is-true t))), lit< tt), lit< tt), lit< tt))
         (λ e w. rising e (w .0 .0 .0)) (λ k (((w, _), _), m). from-seven w m))))
 
-  judge-first : First (judge K F n r) W
-  unfolding judge
-  judge-first = go (listsOf K r) refl
+  -- A formula has no lists and is judged by its codes.
+  judge-first : (K ≡ kind.Formula → ⊥) → First (judge K F n r) W
+  unfolding judgeLists
+  judge-first other = rw (judge-lists K other) (go (listsOf K r) refl)
     where
       go : (cut : Option (List (List ℕ))) → listsOf K r ≡ cut
-          → First (judge K F n r) (WrongRecord K (most K) (longest K) F n r)
-      go none e = rw (e, judge) (WrongRecord.shape e, λ j h w. none-sooner j h)
+          → First (judgeLists K F n r) (WrongRecord K (most K) (longest K) F n r)
+      go none e = rw (e, judgeLists) (WrongRecord.shape e, λ j h w. none-sooner j h)
       go (some lists) e =
           let a = asked K F r lists e in
-          rw (e, judge) (rw (a .long, a .fact, a .name) (lists-first lists e))
+          rw (e, judgeLists) (rw (a .long, a .fact, a .name) (lists-first lists e))
 
 -- ---- every role
 
@@ -172,6 +176,7 @@ numberIn version Names F = λ n r. bare true 1024 r
 numberIn version Clauses F = judge kind.Clause F
 numberIn version Rules F = judge (ruleKind version) F
 numberIn version Goals F = judge kind.Goal F
+numberIn version Formulas F = judge kind.Formula F
 
 -- the kind of a version's rules, in words
 rules-are : (version : ℕ) → RuleKind version (ruleKind version)
@@ -186,6 +191,11 @@ rules-one (RuleKind.three h) (RuleKind.four l) = absurd (omega arith)
 rules-one (RuleKind.four h) (RuleKind.three l) = absurd (omega arith)
 rules-one (RuleKind.four h) (RuleKind.four l) = refl
 
+-- none is a formula
+rules-listed : {version : ℕ} {K : Kind} → RuleKind version K → K ≡ kind.Formula → ⊥
+rules-listed (RuleKind.three h) e = let z : _≡_ {A = ℕ} 0 1 = cc in omega arith
+rules-listed (RuleKind.four h) e = let z : _≡_ {A = ℕ} 0 1 = cc in omega arith
+
 -- the bounds of both kinds of rules
 rule-bounds : {version : ℕ} {K : Kind} → RuleKind version K → (most K ≡ 2048) × (longest K ≡ 32)
 unfolding most longest
@@ -197,7 +207,8 @@ rules-first version F n r =
     let (bound, long) = rule-bounds (rules-are version) in
     go (judge K F n r)
     (subst (λ b. First (judge K F n r) (WrongRecord K b 32 F n r)) bound
-    (subst (λ l. First (judge K F n r) (WrongRecord K (most K) l F n r)) long (judge-first K F n r)))
+    (subst (λ l. First (judge K F n r) (WrongRecord K (most K) l F n r)) long
+    (judge-first K F n r (rules-listed (rules-are version)))))
   where
     K : Kind
     K = ruleKind version
@@ -216,9 +227,12 @@ number-first version Sizes F n r = sizes-first r
 number-first version Initial F n r = facts-first F r
 number-first version Persistent F n r = facts-first F r
 number-first version Names F n r = names-first r
-number-first version Clauses F n r = judge-first kind.Clause F n r
+number-first version Clauses F n r =
+    judge-first kind.Clause F n r (λ e. let z : _≡_ {A = ℕ} 0 1 = cc in omega arith)
 number-first version Rules F n r = rules-first version F n r
-number-first version Goals F n r = judge-first kind.Goal F n r
+number-first version Goals F n r =
+    judge-first kind.Goal F n r (λ e. let z : _≡_ {A = ℕ} 0 1 = cc in omega arith)
+number-first version Formulas F n r = rw judge-formula (formula-first F n r)
 
 -- A number that is given is so, with nothing wrong whose turn is earlier,
 pub number-some : (version : ℕ) (role : Role) (F n : ℕ) (r : List ℕ) (k : ℕ) → numberIn version role F n r ≡ some k
@@ -232,13 +246,14 @@ number-none version role F n r e = subst (λ x. First x (Wrong version role F n 
 
 -- ---- the numbers
 
--- one of 4 to 7 or 12
+-- one of 4 to 7, 12 or 17
 pub data Within : ℕ → Type 0 where
   shape : Within 4
   count : Within 5
   fact : Within 6
   name : Within 12
   order : Within 7
+  formula : Within 17
 
 record-within : {K : Kind} {most longest F n k : ℕ} {r : List ℕ} → WrongRecord K most longest F n r k → Within k
 record-within (WrongRecord.shape e) = Within.shape
@@ -258,6 +273,14 @@ names-within (WrongNumbers.shape h) = Within.shape
 names-within (WrongNumbers.large a i h) = Within.name
 names-within (WrongNumbers.order h) = Within.order
 
+formula-within : {F n k : ℕ} {r : List ℕ} → WrongFormula F n r k → Within k
+formula-within (WrongFormula.unfit h) = Within.shape
+formula-within (WrongFormula.shape h) = Within.shape
+formula-within (WrongFormula.count h) = Within.count
+formula-within (WrongFormula.longer h) = Within.count
+formula-within (WrongFormula.fact c i s h) = Within.fact
+formula-within (WrongFormula.formula h) = Within.formula
+
 sizes-within : {k : ℕ} {bytes : List ℕ} → WrongSizes bytes k → Within k
 sizes-within (WrongSizes.shape h) = Within.shape
 sizes-within (WrongSizes.count h) = Within.count
@@ -270,6 +293,7 @@ wrong-within version Names F n r k w = names-within w
 wrong-within version Clauses F n r k w = record-within w
 wrong-within version Rules F n r k (K, is, w) = record-within w
 wrong-within version Goals F n r k w = record-within w
+wrong-within version Formulas F n r k w = formula-within w
 
 -- Each is the number of its turn,
 of-turn : {k : ℕ} → Within k → getD inTurn (turn k) 0 ≡ k
@@ -279,6 +303,7 @@ of-turn Within.count = refl
 of-turn Within.fact = refl
 of-turn Within.name = refl
 of-turn Within.order = refl
+of-turn Within.formula = refl
 
 -- so that those of one turn are one number.
 pub one-turn : {k j : ℕ} → Within k → Within j → turn k ≡ turn j → k ≡ j

@@ -1,6 +1,6 @@
--- The causes of 2 to 9 and 12 in the words of document 01's table, each with its bytes at fault and with nothing there
--- that comes before it in the order ("Verdict numbers and the order", "the bytes at fault"). How a fault is looked for
--- is another definition, `pairFault`; proofs/Causes.antt shows that what it finds has its cause here.
+-- The causes of 2 to 9, 12 and 17 in the words of document 01's table, each with its bytes at fault and with nothing
+-- there that comes before it in the order ("Verdict numbers and the order", "the bytes at fault"). How a fault is
+-- looked for is another definition, `pairFault`; proofs/Causes.antt shows that what it finds has its cause here.
 use Prim.Native.Nat.{ℕ, suc, _+_, _%_, _≤_, _<_}
 use mathlib.Core.Path.{_≡_}
 use mathlib.Core.Logic.{_⊎_}
@@ -9,13 +9,17 @@ use mathlib.Core.Option.{none, some}
 use lib.ListN.{length, take, drop, getD}
 use lib.Dec.{eqb}
 use Rattle.sets.specs.Sets.{first, _∈_}
+use Rattle.meaning.specs.Model.{aims}
+use Rattle.meaning.specs.Past.{Formula}
 use Rattle.records.specs.Words.{word, words}
-use Rattle.records.specs.Records.{records, listsOf}
+use Rattle.records.specs.Records.{records, listsOf, codesIn}
 use Rattle.records.specs.declared.Kind.{Kind}
 use Rattle.records.specs.declared.Kind.the-variants as kind
+use Rattle.formulas.specs.Codes.{Writes}
 use Rattle.sections.specs.Sections.{long, endAt, sectionAt}
 use Rattle.sections.specs.declared.Role.{Role}
 use Rattle.sections.specs.declared.Role.the-variants.{Sizes, Initial, Persistent, Names, Clauses, Rules, Goals}
+use Rattle.sections.specs.declared.Role.the-variants.{Formulas}
 use Rattle.files.specs.Files.{rolesOf, tag, There, placeOfRole, sectionOf, factCount, entriesOf, modelOf, traceOf}
 
 -- ---- what can be wrong with a record, by number
@@ -60,6 +64,18 @@ pub data WrongRecord (K : Kind) (most longest F n : ℕ) (r : List ℕ) : ℕ �
   order : {lists : List (List ℕ)} → listsOf K r ≡ some lists → (l : List ℕ) → l ∈ lists → Unordered l
       → WrongRecord K most longest F n r 7
 
+-- "an odd record is SHAPE, a formula or code too many COUNT, a fact code of F or more FACT" (document 02, wish 11), and
+-- so is a length that doesn't fit; "at most 64 formulas, one record each, at most 255 codes", "below 32,768 a fact";
+-- "17 FORMULA for a code over 32,775, an unfinished formula, codes after its end, or one too deep": there is no formula
+-- that the codes are, written out (proofs/Written.antt has what else such a record is: `formula-shape`)
+pub data WrongFormula (F n : ℕ) (r : List ℕ) : ℕ → Type 0 where
+  unfit : (length r ≡ 2 + word r → ⊥) → WrongFormula F n r 4
+  shape : length r % 2 ≡ 1 → WrongFormula F n r 4
+  count : 64 ≤ n → WrongFormula F n r 5
+  longer : 255 < length (codesIn r) → WrongFormula F n r 5
+  fact : (c : ℕ) → c ∈ codesIn r → c < 32768 → F ≤ c → WrongFormula F n r 6
+  formula : ((φ : Formula) → Writes (codesIn r) φ → ⊥) → WrongFormula F n r 17
+
 -- the kinds of rules: from version 3 on they have a fourth list (document 02, wish 9)
 pub data RuleKind (version : ℕ) : Kind → Type 0 where
   three : version < 3 → RuleKind version kind.Rule
@@ -75,11 +91,12 @@ Wrong version Names F n r k = WrongNames r k
 Wrong version Clauses F n r k = WrongRecord kind.Clause 4096 16 F n r k
 Wrong version Rules F n r k = (K : Kind) × RuleKind version K × WrongRecord K 2048 32 F n r k
 Wrong version Goals F n r k = WrongRecord kind.Goal 64 32 F n r k
+Wrong version Formulas F n r k = WrongFormula F n r k
 
 -- "Within a record 4 comes before 5, 5 before 6, 6 before 7"; 12 comes "right after FACT within a record" (document 02,
--- wish 9)
+-- wish 9); "last within a record, 17 FORMULA" (wish 11)
 unfoldable pub passes : List ℕ
-passes = 4 ∷ 5 ∷ 6 ∷ 12 ∷ 7 ∷ []
+passes = 4 ∷ 5 ∷ 6 ∷ 12 ∷ 7 ∷ 17 ∷ []
 
 -- the turn of a number among them
 unfoldable pub turn : ℕ → ℕ
@@ -98,6 +115,7 @@ judgedRecords Names bytes = bytes ∷ []
 judgedRecords Clauses bytes = records bytes
 judgedRecords Rules bytes = records bytes
 judgedRecords Goals bytes = records bytes
+judgedRecords Formulas bytes = records bytes
 
 -- record n of the model's section of a role
 abbrev pub recordIn : List ℕ → Role → ℕ → List ℕ
@@ -125,10 +143,10 @@ RightBefore m r = (q : Role) → There m q → tag q < tag r → RightSection m 
 abbrev pub modelEnd : List ℕ → ℕ
 modelEnd m = sectionAt m (length (rolesOf m))
 
--- 4 to 7 and 12 for the model, "at the first fault in file order", with the bytes at fault: "where a section's length
--- doesn't fit: the rest of the file, from that length on"; otherwise the record, of whose faults the one whose turn is
--- first is given; "after the last section: those bytes". A record whose length doesn't fit is the rest of
--- its section (`record-or-rest` in proofs/Found.antt).
+-- 4 to 7, 12 and 17 for the model, "at the first fault in file order", with the bytes at fault: "where a section's
+-- length doesn't fit: the rest of the file, from that length on"; otherwise the record, of whose faults the one whose
+-- turn is first is given; "after the last section: those bytes". A record whose length doesn't fit is the rest of its
+-- section (`record-or-rest` in proofs/Found.antt).
 pub data ModelCause (m : List ℕ) : ℕ → List ℕ → Type 0 where
   unfit : (r : Role) → There m r → RightBefore m r → (Fits m (placeOfRole m r) → ⊥)
       → ModelCause m 4 (drop (placeOfRole m r) m)
@@ -155,17 +173,18 @@ pub record RightTrace (t : List ℕ) : Type 0 where
   pub ends : length t ≤ endAt t 1
 
 -- "4 for the trace (its section first, then bytes after it), then 5, then 9 (goal first, then steps in order)"; for 9
--- "the two bytes in the trace" are the number that names what the model lacks
+-- "the two bytes in the trace" are the number that names what the model lacks. "Goal numbers run on from the attack
+-- states." (document 02, wish 11)
 pub data TraceCause (m t : List ℕ) : ℕ → List ℕ → Type 0 where
   unfit : (Fits t 1 → ⊥) → TraceCause m t 4 (drop 1 t)
   ragged : Fits t 1 → Ragged (entriesOf t) → TraceCause m t 4 (entriesOf t)
   after : Fits t 1 → (Ragged (entriesOf t) → ⊥) → endAt t 1 < length t → TraceCause m t 4 (drop (endAt t 1) t)
   count : RightTrace t → 1024 < length (traceOf t .steps) → TraceCause m t 5 (entriesOf t)
   goal : {bytes : List ℕ} → RightTrace t → length (traceOf t .steps) ≤ 1024
-      → length (modelOf m .goals) ≤ traceOf t .goal
+      → length (aims (modelOf m)) ≤ traceOf t .goal
       → length bytes ≡ 2 → word bytes ≡ traceOf t .goal → TraceCause m t 9 bytes
   step : {bytes : List ℕ} → RightTrace t → length (traceOf t .steps) ≤ 1024
-      → traceOf t .goal < length (modelOf m .goals)
+      → traceOf t .goal < length (aims (modelOf m))
       → (i : ℕ) → i < length (traceOf t .steps)
       → ((j : ℕ) → j < i → getD (traceOf t .steps) j 0 < length (modelOf m .rules))
       → length (modelOf m .rules) ≤ getD (traceOf t .steps) i 0
@@ -173,14 +192,14 @@ pub data TraceCause (m t : List ℕ) : ℕ → List ℕ → Type 0 where
 
 -- ---- the pair
 
--- "a file empty, or first byte not 1", for a model nor 2 nor 3 (document 02, wishes 2 and 9): otherwise it starts with
--- one of the versions
+-- "a file empty, or first byte not 1", for a model nor 2 nor 3 nor 4 (document 02, wishes 2, 9 and 11): otherwise it
+-- starts with one of the versions
 unfoldable pub Starts : List ℕ → List ℕ → Type 0
 Starts versions file = (v : ℕ) × (v ∈ versions) × (rest : List ℕ) × (file ≡ v ∷ rest)
 
 -- the versions of a model, and those of a trace
 abbrev pub ModelStarts : List ℕ → Type 0
-ModelStarts = Starts (1 ∷ 2 ∷ 3 ∷ [])
+ModelStarts = Starts (1 ∷ 2 ∷ 3 ∷ 4 ∷ [])
 
 abbrev pub TraceStarts : List ℕ → Type 0
 TraceStarts = Starts (1 ∷ [])
@@ -198,8 +217,8 @@ pub record RightHeads (m t : List ℕ) : Type 0 where
 
 -- the cause of a refusal: the mark of the file at fault (0 the model, 1 the trace), the number and the bytes. "2
 -- (model, then trace); 3 (model, then trace); then 4 to 7 for the model .. Then 4 for the trace .., then 5, then 9",
--- and 12 with the model's (document 02, wish 9); for 2 "the whole file", for 3 "the first byte, or the empty part of an
--- empty file"
+-- and 12 and 17 with the model's (document 02, wishes 9 and 11); for 2 "the whole file", for 3 "the first byte, or the
+-- empty part of an empty file"
 pub data Cause (m t : List ℕ) : ℕ → ℕ → List ℕ → Type 0 where
   long-model : 65536 < length m → Cause m t 0 2 m
   long-trace : length m ≤ 65536 → 4096 < length t → Cause m t 1 2 t
@@ -216,9 +235,9 @@ pub record RightPair (m t : List ℕ) : Type 0 where
   pub model : RightModel m
   pub trace : RightTrace t
   pub count : length (traceOf t .steps) ≤ 1024
-  pub goal : traceOf t .goal < length (modelOf m .goals)
+  pub goal : traceOf t .goal < length (aims (modelOf m))
   pub rules : (i : ℕ) → i < length (traceOf t .steps) → getD (traceOf t .steps) i 0 < length (modelOf m .rules)
 
--- the numbers that refuse a pair of files: "2 .. 9" of document 01's table and 12 (document 02, wish 9)
+-- the numbers that refuse a pair of files: "2 .. 9" of document 01's table, 12 and 17 (document 02, wishes 9 and 11)
 abbrev pub Refusing : ℕ → Type 0
-Refusing k = ((2 ≤ k) × (k ≤ 9)) ⊎ (k ≡ 12)
+Refusing k = ((2 ≤ k) × (k ≤ 9)) ⊎ (k ≡ 12) ⊎ (k ≡ 17)

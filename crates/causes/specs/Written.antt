@@ -6,12 +6,14 @@ use mathlib.Core.List.{List, [], _∷_, _++_, flatMap}
 use lib.Dec.{leb}
 use lib.ListN.{length}
 use Rattle.meaning.specs.Model.{Clause, Rule, Goal, Model, Trace}
+use Rattle.meaning.specs.Past.{Formula}
+use Rattle.formulas.specs.Codes.{codesOf}
 
 -- "All numbers are big-endian.": a number's two bytes
 unfoldable pub twoBytes : ℕ → List ℕ
 twoBytes n = n / 256 ∷ n % 256 ∷ []
 
--- "2 bytes each"
+-- "2 bytes each": facts, names or codes
 unfoldable pub factBytes : List ℕ → List ℕ
 unfolding flatMap twoBytes
 factBytes = flatMap twoBytes
@@ -51,6 +53,11 @@ unfoldable pub goalBytes : Goal → List ℕ
 unfolding recordBytes listBytes
 goalBytes g = recordBytes (listBytes (g .P) ++ listBytes (g .N))
 
+-- "one record each .. A code is 2 bytes" (document 02, wish 11)
+unfoldable pub formulaBytes : Formula → List ℕ
+unfolding recordBytes factBytes codesOf
+formulaBytes φ = recordBytes (factBytes (codesOf φ))
+
 -- "each a 4-byte length and then that many bytes"
 unfoldable pub sectionBytes : List ℕ → List ℕ
 unfolding twoBytes
@@ -64,10 +71,15 @@ laterSections version m =
     cond (leb 2 version) (sectionBytes (factBytes (m .persistent))) []
     ++ cond (leb 3 version) (sectionBytes (factBytes (m .names))) []
 
+-- "Model version 4 is version 3 with a last section of at most 64 formulas" (document 02, wish 11)
+unfoldable pub lastSection : ℕ → Model → List ℕ
+unfolding sectionBytes flatMap formulaBytes
+lastSection version m = cond (leb 4 version) (sectionBytes (flatMap formulaBytes (m .formulas))) []
+
 -- "A file starts with a version byte", "Model sections, in order: 1. sizes .. 2. initial facts .. 3. clauses; 4. rules;
 -- 5. attack states: records."
 unfoldable pub writtenModel : ℕ → Model → List ℕ
-unfolding sectionBytes twoBytes factBytes flatMap laterSections clauseBytes ruleBytesIn goalBytes
+unfolding sectionBytes twoBytes factBytes flatMap laterSections clauseBytes ruleBytesIn goalBytes lastSection
 writtenModel version m =
     version
     ∷ sectionBytes (twoBytes (m .F))
@@ -76,6 +88,7 @@ writtenModel version m =
     ++ sectionBytes (flatMap clauseBytes (m .clauses))
     ++ sectionBytes (flatMap (ruleBytesIn version) (m .rules))
     ++ sectionBytes (flatMap goalBytes (m .goals))
+    ++ lastSection version m
 
 -- "The trace has one section: an attack state number and then rule numbers, 2 bytes each."
 unfoldable pub writtenTrace : Trace → List ℕ

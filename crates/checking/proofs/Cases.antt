@@ -7,7 +7,9 @@ use mathlib.Core.List.{List, _∷_, map, List·Memᴰ·head, List·Memᴰ·tail}
 use mathlib.Core.Option.{Option·map}
 use Rattle.sets.specs.Sets.{listed, _∈_}
 use Rattle.meaning.specs.Rounds.{roundNumber}
+use Rattle.records.specs.Codes.{behind, isFormula}
 use Rattle.records.specs.Records.{given, _orElse_}
+use Rattle.formulas.specs.Codes.{read}
 use Rattle.files.specs.Files.{modelOf, pairFault}
 use Rattle.causes.specs.Written.{ruleBytes, writtenModel, writtenTrace}
 use Rattle.checking.specs.Verdict.{Lent, noSpace, blamed, refusal, verdictOf}
@@ -31,7 +33,7 @@ line c = shown (roomy (writtenModel (c .version) (c .model)) (writtenTrace (c .t
 
 -- The lines are those expected.
 all-lines : map line cases ≡ map (λ c. c .expected) cases
-unfolding line cases
+unfolding line cases isFormula behind read
 all-lines = refl
 
 -- Two functions with the same images on a list agree at each of its entries.

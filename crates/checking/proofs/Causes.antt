@@ -8,7 +8,7 @@ use mathlib.Core.Option.{none, some, Option·none-ne-some, Option·some-injectiv
 use native.Mathlib.Omega.{arith}
 use Rattle.meaning.specs.Run.{Condition, Ending}
 use Rattle.meaning.specs.Run.Condition.{positive, negative, unused}
-use Rattle.meaning.specs.Run.Ending.{attack, blocked, notMet}
+use Rattle.meaning.specs.Run.Ending.{attack, blocked, notMet, upheld}
 use Rattle.files.specs.Files.{Blamed, pairFault}
 use Rattle.files.specs.Answers.{blamedNumber}
 use Rattle.causes.proofs.Exact.{number-exactly}
@@ -17,17 +17,26 @@ use Rattle.checking.specs.Promises.{Stopping, endNumber, Given}
 use Rattle.causes.specs.Causes.{Refusing}
 
 -- the numbers of faults and of steps that can't fire, for sums and orders
-pub refusing-is : {k : ℕ} → Refusing k → (2 ≤ k) × (k ≤ 12) × (k ≡ 10 → ⊥) × (k ≡ 11 → ⊥)
-refusing-is (inl r) = (omega arith, omega arith, λ e. omega arith, λ e. omega arith)
-refusing-is (inr r) = (omega arith, omega arith, λ e. omega arith, λ e. omega arith)
+abbrev Apart : ℕ → Type 0
+Apart k = (k ≡ 10 → ⊥) × (k ≡ 11 → ⊥) × (k ≡ 13 → ⊥)
+
+apart : (k : ℕ) → (k ≤ 9) ⊎ (k ≡ 12) ⊎ (k ≡ 17) → Apart k
+apart k (inl h) = (λ e. omega arith, λ e. omega arith, λ e. omega arith)
+apart k (inr (inl h)) = (λ e. omega arith, λ e. omega arith, λ e. omega arith)
+apart k (inr (inr h)) = (λ e. omega arith, λ e. omega arith, λ e. omega arith)
+
+pub refusing-is : {k : ℕ} → Refusing k → (2 ≤ k) × Apart k
+refusing-is {k} (inl r) = (omega arith, apart k (inl (r .1)))
+refusing-is {k} (inr (inl r)) = (omega arith, apart k (inr (inl r)))
+refusing-is {k} (inr (inr r)) = (omega arith, apart k (inr (inr r)))
 
 pub stopping-is : {k : ℕ} → Stopping k → (10 ≤ k) × (k ≤ 13) × (k ≡ 11 → ⊥) × (k ≡ 12 → ⊥)
 stopping-is (inl r) = (omega arith, omega arith, λ e. omega arith, λ e. omega arith)
 stopping-is (inr r) = (omega arith, omega arith, λ e. omega arith, λ e. omega arith)
 
-pub refused-is : {k : ℕ} → (k ≡ 1) ⊎ Refusing k → (1 ≤ k) × (k ≤ 12) × (k ≡ 10 → ⊥) × (k ≡ 11 → ⊥)
-refused-is (inl e) = (omega arith, omega arith, λ q. omega arith, λ q. omega arith)
-refused-is (inr r) = let (low, high, a, b) = refusing-is r in (omega arith, high, a, b)
+pub refused-is : {k : ℕ} → (k ≡ 1) ⊎ Refusing k → (1 ≤ k) × Apart k
+refused-is {k} (inl e) = (omega arith, apart k (inl (omega arith)))
+refused-is (inr r) = let (low, others) = refusing-is r in (omega arith, others)
 
 -- A step that can't fire is 10 or 13.
 pub stop-range : (c : Condition) → Stopping (stopNumber c)
@@ -49,6 +58,7 @@ unfolding numberOf
 end-range attack = inl refl
 end-range (blocked c) = inr (inr (stop-range c))
 end-range (notMet c) = inr (inl refl)
+end-range upheld = inr (inl refl)
 
 -- It is 0 for an attack alone.
 pub end-attack : (e : Ending) → (numberOf e ≡ 0) ↔ (e ≡ attack)
@@ -59,6 +69,7 @@ end-attack (blocked c) = (
   λ h. let z : _≡_ {A = ℕ} 0 1 = cc in absurd (omega arith),
 )
 end-attack (notMet c) = (λ h. absurd (omega arith), λ h. let z : _≡_ {A = ℕ} 0 1 = cc in absurd (omega arith))
+end-attack upheld = (λ h. absurd (omega arith), λ h. let z : _≡_ {A = ℕ} 0 1 = cc in absurd (omega arith))
 
 -- The numbers of a run are neither 1 nor those of the files' faults.
 pub ended-apart : {k : ℕ} → (k ≡ 0) ⊎ (k ≡ 11) ⊎ Stopping k → (k ≡ 1 → ⊥) × (Refusing k → ⊥)

@@ -1,33 +1,36 @@
 -- Laws on the end of a run: what the search over the steps leaves and what is asked of the last state make the outcome.
 use Prim.Native.Nat.{ℕ, _+_, _<_}
-use mathlib.Core.Path.{_≡_, refl, sym, ap, ap₂, _∙_, fun-ext}
+use mathlib.Core.Path.{_≡_, refl, sym, ap, ap₂, _∙_, subst, fun-ext}
 use mathlib.Core.List.{List, [], List·Memᴰ·head, Memᴰ·append-right}
-use mathlib.Core.Logic.{_⊎_, inl, inr}
+use mathlib.Core.Logic.{_⊎_, inl, inr, ⊎-elim}
 use mathlib.Core.Option.{none, some}
 use native.Mathlib.Omega.{arith}
 use lib.ListN.{length, getD, drop}
 use Rattle.sets.specs.Sets.{Facts, size, _∈_}
-use Rattle.sets.proofs.Laws.{getD-in}
+use Rattle.sets.proofs.Laws.{getD-in, below-or-from}
 use Rattle.sets.proofs.Size.{size-below}
-use Rattle.meaning.specs.Model.{Model}
+use Rattle.meaning.specs.Past.{History}
+use Rattle.meaning.specs.Model.{Goal, Model, Aim, aims, aimOf}
+use Rattle.meaning.specs.Model.Aim.{state}
 use Rattle.meaning.specs.Rounds.{rounds, closure, roundNumber}
-use Rattle.meaning.specs.Run.{Condition, Reached, Ending, Outcome, conditions, unmet, asked, ending, outcomeOf, run}
+use Rattle.meaning.specs.Run.{Condition, Reached, Ending, Outcome, conditions, unmet, askedOf, asked, ending}
+use Rattle.meaning.specs.Run.{outcomeOf, run}
 use Rattle.meaning.specs.Run.Condition.{positive, negative, unused}
 use Rattle.meaning.specs.Run.Ending.{attack, blocked, notMet}
-use Rattle.meaning.specs.Promises.{FirstUnmet, absent, present, inUse}
+use Rattle.meaning.specs.Promises.{FirstUnmet, absent, present, inUse, GoalUnmet, lacks, stillTrue}
 use Rattle.meaning.specs.Promises.EndsSo.{attack as so-attack, blocked as so-blocked, notMet as so-notMet}
 use Rattle.meaning.proofs.Theorems.{run-is}
-use Rattle.meaning.proofs.Runs.{Below, run-below}
-use Rattle.meaning.specs.Model.{goalOf}
+use Rattle.meaning.proofs.Runs.{Below, run-below, state-at}
 use Rattle.facts.specs.Facts.{members, Kept}
 use Rattle.facts.proofs.Laws.{kept-same, kept-trans}
 use Rattle.files.specs.Files.{factCount, pairFault, shapeFault, modelOf, traceOf}
 use Rattle.files.proofs.Laws.{facts-bound, initial-below, rule-below, goal-below}
+use Rattle.files.proofs.Aims.{formula-in}
 use Rattle.files.proofs.Traces.{pair-shape, pair-named, pair-step-known, pair-goal-known}
 use Rattle.files.proofs.Lists.{added-below}
 use Rattle.closing.specs.Closing.{numbered, Filled, ClosesUnder}
 use Rattle.checking.specs.Verdict.{Lent, namesIn, roundIn, outcome, Left}
-use Rattle.checking.specs.Running.{unmetIn, endingOf, reached, counted, StepsTo, askedIn, KnownIn}
+use Rattle.checking.specs.Running.{unmetIn, endingOf, reached, counted, aimed, Asked, StepsTo, KnownIn}
 use Rattle.checking.specs.Running.{Numbers, EndsAs}
 use Rattle.checking.specs.declared.conditions.Condition.the-variants as condition
 use Rattle.checking.specs.declared.conditions.Unmet.the-variants as found
@@ -37,15 +40,15 @@ use Rattle.checking.proofs.Stepwise.{closure-shown}
 
 -- ---- what is asked of the last state
 
-module _ (m : Model) (g : ℕ) (X used : Facts) where
-  pub asked-met : unmet X used (conditions (goalOf m g .P) (goalOf m g .N) []) ≡ none → attack ≡ askedIn m g X used
-  unfolding askedIn
-  asked-met e = rw (e, askedIn)
+module _ {A : Aim} (G : Goal) (is : A ≡ state G) (X used : Facts) where
+  pub asked-met : unmet X used (conditions (G .P) (G .N) []) ≡ none → attack ≡ askedOf A X used []
+  unfolding askedOf
+  asked-met e = rw (is, askedOf) (rw e)
 
-  pub asked-unmet : {c : Condition} → unmet X used (conditions (goalOf m g .P) (goalOf m g .N) []) ≡ some c
-      → notMet c ≡ askedIn m g X used
-  unfolding askedIn
-  asked-unmet e = rw (e, askedIn)
+  pub asked-unmet : {c : Condition} → unmet X used (conditions (G .P) (G .N) []) ≡ some c
+      → notMet c ≡ askedOf A X used []
+  unfolding askedOf
+  asked-unmet e = rw (is, askedOf) (rw e)
 
 -- ---- how the steps ended
 
@@ -62,8 +65,8 @@ module _ (m : Model) (r : Reached) where
 
   -- none
   ending-asked : (g : ℕ) → r .stop ≡ none
-      → askedIn m g (closure (m .clauses) (r .state .facts)) (r .state .names) ≡ ending m g r
-  unfolding ending asked askedIn
+      → askedOf (aimOf m g) (closure (m .clauses) (r .state .facts)) (r .state .names) (r .past) ≡ ending m g r
+  unfolding ending asked
   ending-asked g e = rw (e, ending)
 
   counted-all : r .stop ≡ none → counted m r ≡ r .earlier
@@ -87,7 +90,8 @@ left-from k u n b l = record {
 
 module _ (m t : List ℕ) where
   -- the steps' promise holds of the buffers as they are left
-  pub steps-here : {before after : Lent} {r : Steps} → StepsTo m t before after r → StepsTo m t after after r
+  pub steps-here : {before after : Lent} {bits : List ℕ} {r : Steps} → StepsTo m t before after bits r
+      → StepsTo m t after after bits r
   steps-here s = record {
     fired = s .fired;
     stop = s .stop;
@@ -99,11 +103,12 @@ module _ (m t : List ℕ) where
     as-long = refl;
     beyond = refl;
     filled = λ c e. record { as-long = refl; entries = s .filled c e .entries; beyond = refl };
+    keeps = s .keeps;
     within = s .within;
     bound = s .bound;
   }
 
-  module _ {l : Lent} {r : Steps} (s : StepsTo m t l l r) where
+  module _ {l : Lent} {bits : List ℕ} {r : Steps} (s : StepsTo m t l l bits r) where
     -- the last state is left, with a table of its round numbers
     left : {table : List ℕ} → Filled (modelOf m .clauses) (reached m t .state .facts) (l .table) table
         → Left (modelOf m) (outcome m t) l (record { state = l .state; table = table; names = l .names })
@@ -133,7 +138,7 @@ module _ (m t : List ℕ) where
     -- Otherwise what is asked of the last state does.
     pub ends-asked : shapeFault m ≡ none → {table : List ℕ} {n : ℕ} {e : ends.the-data} → r .stop ≡ found.Nowhere
         → ClosesUnder (modelOf m .clauses) (l .state) (l .table) table n
-        → endingOf e ≡ askedIn (modelOf m) (traceOf t .goal) (numbered table) (namesIn (l .names))
+        → Asked (aimed m t) (numbered table) (namesIn (l .names)) bits (endingOf e)
         → EndsAs m t l (record { state = l .state; table = table; names = l .names })
         (record { ending = e; step = r .fired; rounds = r .rounds + n })
     unfolding outcome run outcomeOf unmetIn reached
@@ -144,7 +149,8 @@ module _ (m t : List ℕ) where
         record {
           within = s .within;
           ending =
-              asks ∙ ap₂ (askedIn (modelOf m) (traceOf t .goal)) shown (fun-ext (s .names))
+              asks _ (s .keeps)
+              ∙ ap₂ (λ (X used : Facts). askedOf (aimed m t) X used (reached m t .past)) shown (fun-ext (s .names))
               ∙ ending-asked (modelOf m) (reached m t) (traceOf t .goal) stop;
           step = s .fired;
           rounds =
@@ -154,11 +160,11 @@ module _ (m t : List ℕ) where
         }
 
   -- All bits of the last state are facts below F, so that counting them counts its facts.
-  pub held-is : shapeFault m ≡ none → (state : List ℕ) {held : ℕ}
-      → ((g : ℕ) → members state g ≡ outcome m t .state .facts g)
-      → held ≡ size (members state) 4096 → held ≡ outcome m t .held
+  pub held-is : shapeFault m ≡ none → (bytes : List ℕ) {held : ℕ}
+      → ((g : ℕ) → members bytes g ≡ outcome m t .state .facts g)
+      → held ≡ size (members bytes) 4096 → held ≡ outcome m t .held
   unfolding outcome run outcomeOf modelOf Below
-  held-is fine state e h =
+  held-is fine bytes e h =
       let below = run-below (modelOf m) (traceOf t) (initial-below m fine) (added-below m fine) in
       h ∙ ap (λ X. size X 4096) (fun-ext e) ∙ size-below _ _ 4096 (facts-bound m fine) below
 
@@ -186,9 +192,25 @@ of-blocked : {x : Ending} {c d : Condition} → x ≡ blocked d → EndsWith x c
 of-blocked e (inl q) = cc
 of-blocked e (inr q) = let z : _≡_ {A = ℕ} 0 1 = cc in absurd (omega arith)
 
-of-notMet : {x : Ending} {c d : Condition} → x ≡ notMet d → EndsWith x c → d ≡ c
-of-notMet e (inl q) = let z : _≡_ {A = ℕ} 0 1 = cc in absurd (omega arith)
-of-notMet e (inr q) = cc
+-- An attack state's condition is its first unmet one.
+of-goal : {X used : Facts} {past : History} {A : Aim} {x : Ending} {c : Condition} → GoalUnmet X used past A x
+    → EndsWith x c → (G : Goal) × (A ≡ state G) × FirstUnmet X used (G .P) (G .N) [] c
+of-goal (lacks {G} h) (inl q) = let z : _≡_ {A = ℕ} 0 1 = cc in absurd (omega arith)
+of-goal {X} {used} (lacks {G} {c = d} h) (inr q) = (G, refl, subst (FirstUnmet X used (G .P) (G .N) []) (cc) h)
+of-goal (stillTrue h) (inl q) = let z : _≡_ {A = ℕ} 0 1 = cc in absurd (omega arith)
+of-goal (stillTrue h) (inr q) = let z : _≡_ {A = ℕ} 0 1 = cc in absurd (omega arith)
+
+-- The attack state that a trace names is one of the model's.
+goal-of : (m : List ℕ) {g : ℕ} (G : Goal) → g < length (aims (modelOf m)) → aimOf (modelOf m) g ≡ state G
+    → G ∈ modelOf m .goals
+goal-of m {g} G there is =
+    ⊎-elim
+    (λ l.
+    let at = state-at (modelOf m) g (record { P = []; N = [] }) l in
+    let same : getD (modelOf m .goals) g (record { P = []; N = [] }) ≡ G = cc in
+    subst (λ (x : Goal). x ∈ modelOf m .goals) same (getD-in (modelOf m .goals) g _ l))
+    (λ l. let e = formula-in m g l there in let z : _≡_ {A = ℕ} 0 1 = cc in absurd (omega arith))
+    (below-or-from g (length (modelOf m .goals)))
 
 -- Its fact is one that a table has an entry for.
 pub ending-known : (m t : List ℕ) → pairFault m t ≡ none → (c : Condition) → EndsWith (outcome m t .ending) c
@@ -206,9 +228,10 @@ ending-known m t fine c told =
           rule-below m shape _
           (getD-in (M .rules) _ (record { P = []; N = []; A = []; names = [] }) (pair-step-known m t fine _ h)) in
           rw (← of-blocked e told) (first-known u (few _ (r .0)) (few _ (r .1)))
-      | so-notMet d e h X hc u ↦
-          let g = goal-below m shape _ (getD-in (M .goals) _ (record { P = []; N = [] }) (pair-goal-known m t fine)) in
-          rw (← of-notMet e told) (first-known u (few _ (g .0)) (few _ (g .1)))
+      | so-notMet x e h X hc u ↦
+          let (G, is, first) = of-goal u (subst (λ (y : Ending). EndsWith y c) e told) in
+          let g = goal-below m shape G (goal-of m G (pair-goal-known m t fine) is) in
+          first-known first (few _ (g .0)) (few _ (g .1))
     ]
 
 -- Its round in the table is its round.

@@ -1,5 +1,6 @@
 pub mod Changing
 pub mod Looking
+pub mod Aiming
 pub mod Stepwise
 pub mod Ends
 pub mod Verdicts
@@ -11,5 +12,6 @@ pub mod Naming
 pub mod Unique
 pub mod Theorems
 pub mod Names
+pub mod Past
 pub mod Cases
 pub mod Versions

@@ -15,7 +15,7 @@ use Rattle.meaning.specs.Model.{start}
 use Rattle.meaning.specs.Run.{Outcome}
 use Rattle.meaning.specs.Run.Condition.{unused}
 use Rattle.meaning.specs.Run.Ending.{blocked}
-use Rattle.meaning.specs.Published.{Path}
+use Rattle.meaning.specs.Published.{Path, earlier}
 use Rattle.meaning.specs.Promises.{Makes, Nameless, roundsOn}
 use Rattle.meaning.specs.Promises.EndsSo.{blocked as so-blocked}
 use Rattle.meaning.proofs.Theorems.{closure-is-HC, is-run, start-not-made, made-once, names-left}
@@ -83,6 +83,7 @@ module _ {m t : List ℕ} {l : Lent} (w : WellFormed m t l) where
       step = i;
       rounds = roundsOn (u .path);
       held = size (u .state .facts) (modelOf m .F);
+      past = earlier (u .path);
       state = u .state;
     }
 
@@ -93,6 +94,7 @@ module _ {m t : List ℕ} {l : Lent} (w : WellFormed m t l) where
       path = u .path;
       ends = so-blocked (unused n) refl (u .there) _ (closure-is-HC (modelOf m .clauses) (u .state .facts)) (u .first);
       rounds = refl;
+      past = refl;
       held = refl;
     })
 
@@ -132,6 +134,6 @@ module _ (m t : List ℕ) (l : Lent) where
   -- For a model of version 1 or 2 neither 12 nor 13 is ever given.
   pub old-never : getD m 0 0 < 3 → (verdict m t l .number ≡ 12 → ⊥) × (verdict m t l .number ≡ 13 → ⊥)
   old-never old = (
-    λ e. let (_, (_, _, c)) = numbers m t l .fault 12 (inr refl) .0 e in no-badname m old refl c,
+    λ e. let (_, (_, _, c)) = numbers m t l .fault 12 (inr (inl refl)) .0 e in no-badname m old refl c,
     never-used (record { start = none-named m old; rules = none-made m old }),
   )

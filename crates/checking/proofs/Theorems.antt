@@ -11,14 +11,15 @@ use lib.Dec.{T}
 use lib.ListN.{getD}
 use Rattle.sets.specs.Sets.{Facts, _∈_}
 use Rattle.sets.proofs.Laws.{fails, below-or-from}
-use Rattle.meaning.specs.Model.{Rule, Model, ruleOf}
+use Rattle.meaning.specs.Model.{Rule, Model, Aim, ruleOf, aimOf}
 use Rattle.meaning.specs.Rounds.{rounds, closure, missingHeads}
-use Rattle.meaning.specs.Run.{Outcome}
+use Rattle.meaning.specs.Run.{Ending, Outcome}
 use Rattle.meaning.specs.Run.Condition.{unused}
-use Rattle.meaning.specs.Published.{TrueAttack}
-use Rattle.meaning.specs.Promises.{FirstUnmet, IsOutcome, EndsSo, roundsOn}
+use Rattle.meaning.specs.Published.{HC, TrueAttack}
+use Rattle.meaning.specs.Promises.{FirstUnmet, IsOutcome, GoalUnmet, lacks, stillTrue, EndsSo, roundsOn}
 use Rattle.meaning.specs.Promises.EndsSo.{attack as so-attack, blocked as so-blocked, notMet as so-notMet}
 use Rattle.meaning.proofs.Theorems.{accepted, run-is, closure-inside, roundNumber-is, rounds-bound, missingHeads-bound}
+use Rattle.meaning.proofs.Running.{the-closure}
 use Rattle.meaning.proofs.Runs.{Below, run-below}
 use Rattle.facts.specs.Facts.{members}
 use Rattle.facts.proofs.Laws.{Bytes, determined}
@@ -41,7 +42,7 @@ use Rattle.checking.proofs.Refusals.{refuses-none, by-cause}
 use Rattle.checking.proofs.Causes.{end-range, end-attack, ended-apart, given-room, given-fault, given-run}
 use Rattle.checking.proofs.Causes.{refusing-is, refused-is, stopping-is, stop-range, stop-used}
 use Rattle.checking.proofs.Naming.{in-closure, no-name, no-kind, named}
-use Rattle.checking.proofs.Parts.{fault-at, run-at, fault-in, run-in}
+use Rattle.checking.proofs.Parts.{goal-ends, fault-at, run-at, fault-in, run-in}
 
 -- ---- one verdict
 
@@ -201,7 +202,8 @@ module _ (m t : List ℕ) (l : Lent) where
         empty = λ _. refl;
         cause = λ h. absurd (omega (arith, refusing-is h));
         entry = λ h. absurd (omega (arith, stopping-is h));
-        goal = λ e. absurd (omega arith);
+        state = λ e. absurd (omega arith);
+        formula = λ e. absurd (omega arith);
       })
       (λ _ b e. fault-at m t b e) (λ w. run-at m t (w .fine) (first-not-met w .0 .ends))
 
@@ -248,8 +250,8 @@ module _ (m t : List ℕ) (l : Lent) where
             blocked = λ _. s;
             no-fact = λ not _. absurd (not number);
           }
-      of-run (so-notMet c e s X hc u) =
-          let number : numberOf (outcome m t .ending) ≡ 11 = ap numberOf e in
+      of-run (so-notMet x e s X hc u) =
+          let number : numberOf (outcome m t .ending) ≡ 11 = ap numberOf e ∙ goal-ends m t 0 u .0 in
           record {
             refused = λ q. absurd (omega (arith, refused-is q));
             ended = λ _. s;
@@ -272,8 +274,42 @@ module _ (m t : List ℕ) (l : Lent) where
         no-kind = λ _ _. (k, r);
         of-rule = λ e. absurd (omega (arith, refused-is n));
         of-goal = λ e. absurd (omega (arith, refused-is n));
+        of-formula = λ e. absurd (omega (arith, refused-is n));
         of-name = λ e. absurd (omega (arith, refused-is n));
       }
+
+      -- what is not met is an attack state's condition, or a formula that is true
+      of-aim : {X : Facts} {A : Aim} {x : Ending} → GoalUnmet X (outcome m t .state .names) (outcome m t .past) A x
+          → aimOf (modelOf m) (traceOf t .goal) ≡ A → outcome m t .ending ≡ x
+          → HC (modelOf m .clauses) (outcome m t .state .facts) X → Kinds m t (ran m t (outcome m t))
+      of-aim {X} (lacks {G} {c} u) is e hc =
+          let number : numberOf (outcome m t .ending) ≡ 11 = ap numberOf e in
+          record {
+            no-kind = λ _ not. absurd (not number);
+            of-rule = λ q. absurd (omega arith);
+            of-goal = λ _ H other.
+                let same : G ≡ H = cc in
+                rw (← same)
+                (named _ _ c (λ n k. no-name (subst (FirstUnmet X _ _ _ []) k u)) (in-closure hc u) (ap factOf e)
+                (ap kindOf e) (ap (roundOf _) e));
+            of-formula = λ _ p other. let z : _≡_ {A = ℕ} 0 1 = cc in absurd (omega arith);
+            of-name = λ q. absurd (omega arith);
+          }
+      of-aim {X} (stillTrue {p} h) is e hc =
+          let number : numberOf (outcome m t .ending) ≡ 11 = ap numberOf e in
+          record {
+            no-kind = λ _ not. absurd (not number);
+            of-rule = λ q. absurd (omega arith);
+            of-goal = λ _ G other. let z : _≡_ {A = ℕ} 0 1 = cc in absurd (omega arith);
+            of-formula = λ _ q other.
+                let same : p ≡ q = cc in (
+                  ap factOf e,
+                  ap kindOf e,
+                  ap (roundOf _) e,
+                  rw (← same, ← the-closure (modelOf m) (outcome m t .state) hc) h,
+                );
+            of-name = λ q. absurd (omega arith);
+          }
 
       of-run : EndsSo (modelOf m) (traceOf t .goal) (traceOf t .steps) (outcome m t) → Kinds m t (ran m t (outcome m t))
       of-run (so-attack e _ _) =
@@ -282,6 +318,7 @@ module _ (m t : List ℕ) (l : Lent) where
             no-kind = λ _ _. (ap kindOf e, ap (roundOf _) e);
             of-rule = λ q. absurd (omega arith);
             of-goal = λ q. absurd (omega arith);
+            of-formula = λ q. absurd (omega arith);
             of-name = λ q. absurd (omega arith);
           }
       of-run (so-blocked c e h X hc u) =
@@ -295,15 +332,7 @@ module _ (m t : List ℕ) (l : Lent) where
                 named _ _ c (not-used (sym number ∙ q)) (in-closure hc u) (ap factOf e) (ap kindOf e)
                 (ap (roundOf _) e);
             of-goal = λ q. absurd (omega (arith, stopping-is (stop-range c)));
+            of-formula = λ q. absurd (omega (arith, stopping-is (stop-range c)));
             of-name = λ q. rw (ap factOf e, ← stop-used c (sym number ∙ q)) (in-closure hc u);
           }
-      of-run (so-notMet c e h X hc u) =
-          let number : numberOf (outcome m t .ending) ≡ 11 = ap numberOf e in
-          record {
-            no-kind = λ _ not. absurd (not number);
-            of-rule = λ q. absurd (omega arith);
-            of-goal = λ _.
-                named _ _ c (λ n is. no-name (subst (FirstUnmet X _ _ _ []) is u)) (in-closure hc u) (ap factOf e)
-                (ap kindOf e) (ap (roundOf _) e);
-            of-name = λ q. absurd (omega arith);
-          }
+      of-run (so-notMet x e h X hc u) = of-aim u refl e hc

@@ -4,7 +4,7 @@ use mathlib.Core.Path.{_≡_, sym, ap, _∙_}
 use mathlib.Core.List.{List}
 use Rattle.meaning.specs.Rounds.{roundNumber}
 use Rattle.meaning.specs.Run.{Ending, Outcome}
-use Rattle.meaning.specs.Run.Ending.{attack, blocked, notMet}
+use Rattle.meaning.specs.Run.Ending.{attack, blocked, notMet, upheld}
 use Rattle.files.specs.Files.{modelOf, traceOf}
 use Rattle.files.specs.Answers.{entryPart, goalPart}
 use Rattle.files.specs.declared.Part.{Part}
@@ -44,6 +44,11 @@ module _ (m t : List ℕ) (o : Outcome) {steps : ℕ} (e : Ended) {held : ℕ} (
   pub ran-attack : e .ending ≡ ends.Attack → made 0 65535 0 65535 nothing ≡ ran m t o
   unfolding endingOf numberOf factOf kindOf roundOf partFor
   ran-attack told = made-is attack (ap endingOf told)
+
+  pub ran-upheld : e .ending ≡ ends.Upheld → {part : Part} → part ≡ goalPart m (traceOf t .goal)
+      → made 11 65535 0 65535 part ≡ ran m t o
+  unfolding endingOf numberOf factOf kindOf roundOf partFor
+  ran-upheld told p = rw p (made-is upheld (ap endingOf told))
 
   module _ (c : condition.the-data) {fact kind round : ℕ} {part : Part} (f : fact ≡ factIn (conditionOf c))
       (k : kind ≡ kindIn (conditionOf c))

@@ -4,11 +4,12 @@ use Prim.Native.Nat.{ℕ}
 use mathlib.Core.Path.{_≡_, refl, sym, ap, subst, _∙_}
 use mathlib.Core.List.{List}
 use mathlib.Core.Option.{Option, none, some}
+use native.Mathlib.Omega.{arith}
 use Rattle.meaning.specs.Model.{Model}
 use Rattle.meaning.specs.Rounds.{roundNumber}
 use Rattle.meaning.specs.Run.{Outcome, run}
 use Rattle.files.specs.Files.{modelOf, traceOf, modelFault}
-use Rattle.files.proofs.Laws.{none-named}
+use Rattle.files.proofs.Laws.{none-named, none-formulas}
 use Rattle.causes.proofs.Alike.{same-fault}
 use Rattle.checking.specs.Verdict.{Lent, numberOf, factOf, kindOf, roundOf, outcome, ran, refusal}
 use Rattle.checking.specs.Verdict.{verdictOf, Left, Buffers, Checked}
@@ -26,6 +27,7 @@ same-model one two same = λ i. record {
   clauses = same .clauses i;
   rules = same .rules i;
   goals = same .goals i;
+  formulas = (none-formulas one (omega (arith, same .version)) ∙ sym (same .none-formulas)) i;
 }
 
 -- what the verdict of an outcome shows

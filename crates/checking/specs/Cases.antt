@@ -1,11 +1,13 @@
 -- Document 01's cases A to L as one table: a model and a trace, and the line expected ("The desk model and its
--- traces"); the cases that show why document 02's wish 2 was made, and those of its wish 9.
-use Prim.Native.Nat.{ℕ}
+-- traces"); the cases that show why document 02's wish 2 was made, and those of its wishes 9 and 11.
+use Prim.Native.Nat.{ℕ, zero, suc}
 use mathlib.Core.Path.{_≡_}
 use mathlib.Core.Bool.{false}
 use mathlib.Core.List.{List, [], _∷_, map}
 use lib.ListN.{length}
 use Rattle.sets.specs.Sets.{listed, _∈_}
+use Rattle.meaning.specs.Past.{Formula}
+use Rattle.meaning.specs.Past.Formula.{fact, negation, implies, yesterday, once, historically, since}
 use Rattle.meaning.specs.Model.{Clause, Rule, Goal, Model, Trace}
 use Rattle.meaning.specs.Rounds.{roundNumber}
 use Rattle.files.specs.Files.{modelOf}
@@ -47,6 +49,7 @@ desk = record {
   clauses = 2 from (0 ∷ 1 ∷ []) ∷ 5 from (2 ∷ 4 ∷ []) ∷ [];
   rules = r0 ∷ rule (0 ∷ []) [] [] ∷ rule (1 ∷ []) [] (1 ∷ []) ∷ [];
   goals = goal (3 ∷ 5 ∷ []) [] ∷ goal (4 ∷ []) (0 ∷ []) ∷ [];
+  formulas = [];
 }
 
 -- "Other models have one attack state, whose P is the fact called goal below and whose N is empty; no rules"
@@ -59,6 +62,7 @@ other F initial clauses P = record {
   clauses = clauses;
   rules = [];
   goals = goal P [] ∷ [];
+  formulas = [];
 }
 
 -- what the document says of the desk model: "The file has 101 bytes; r0 is ..", "Round numbers at the start: 0, 0, 1,
@@ -83,14 +87,14 @@ pub record Case : Type 0 where
   pub expected : Line
 
 abbrev row : ℕ → Model → Trace → ℕ → ℕ → ℕ → ℕ → ℕ → ℕ → ℕ → Case
-row version m t number step fact rounds held kind round = record {
+row version m t number step condition rounds held kind round = record {
   version = version;
   model = m;
   trace = t;
   expected = record {
     number = number;
     step = step;
-    fact = fact;
+    fact = condition;
     rounds = rounds;
     held = held;
     kind = kind;
@@ -113,6 +117,7 @@ translated = record {
   clauses = 1 from (0 ∷ []) ∷ [];
   rules = rule (1 ∷ []) [] (1 ∷ []) ∷ rule (0 ∷ []) [] [] ∷ [];
   goals = goal (1 ∷ []) [] ∷ [];
+  formulas = [];
 }
 
 unfoldable pub published : Model
@@ -124,6 +129,7 @@ published = record {
   clauses = 1 from (0 ∷ []) ∷ [];
   rules = rule (1 ∷ []) [] [] ∷ rule (0 ∷ []) [] [] ∷ [];
   goals = goal (1 ∷ []) [] ∷ [];
+  formulas = [];
 }
 
 -- "only those of P that aren't persistent": the rule asks for the stored facts 0 and 1, and 1 is persistent
@@ -136,6 +142,7 @@ stored = record {
   clauses = [];
   rules = rule (0 ∷ 1 ∷ []) [] [] ∷ [];
   goals = goal (1 ∷ []) (0 ∷ []) ∷ [];
+  formulas = [];
 }
 
 -- "A rule fires only if all its names are unused; firing uses them, and nothing frees them." (document 02, wish 9):
@@ -152,6 +159,7 @@ named = record {
       maker [] (1 ∷ []) (7 ∷ []) ∷ maker [] [] (5 ∷ []) ∷ maker (0 ∷ []) [] (3 ∷ 7 ∷ []) ∷ maker (1 ∷ []) [] (5 ∷ [])
       ∷ [];
   goals = goal (1 ∷ []) [] ∷ [];
+  formulas = [];
 }
 
 -- a model of one rule, with these names in use at the start
@@ -164,11 +172,50 @@ ruled names r = record {
   clauses = [];
   rules = r ∷ [];
   goals = goal [] [] ∷ [];
+  formulas = [];
 }
 
--- the rows of "The desk model and its traces", A to L, and those of persistence and of names
+-- "Nobody signed before the form was opened" (document 02, wish 11): fact 0 is opened, 1 signed, and 2 holds through 1.
+-- The rules open, sign, take the signature away, and close. Goal 0 is an attack state; goal 1 says that whoever signed
+-- had opened before, goal 2 that fact 2 has not held since the form was open, goal 3 that it was signed one state ago.
+unfoldable pub signing : Model
+signing = record {
+  F = 3;
+  initial = [];
+  persistent = [];
+  names = [];
+  clauses = 2 from (1 ∷ []) ∷ [];
+  rules =
+      rule [] [] (0 ∷ []) ∷ rule [] [] (1 ∷ []) ∷ rule (1 ∷ []) [] [] ∷ rule (0 ∷ []) [] [] ∷ [];
+  goals = goal (1 ∷ []) (0 ∷ []) ∷ [];
+  formulas =
+      historically (implies (fact 1) (once (fact 0)))
+      ∷ since (negation (fact 2)) (fact 0)
+      ∷ yesterday (fact 1)
+      ∷ [];
+}
+
+-- fact 0 under so many negations
+unfoldable pub negated : ℕ → Formula
+negated zero = fact 0
+negated (suc n) = negation (negated n)
+
+-- a model of so many facts and one formula
+abbrev pub formulaOnly : ℕ → Formula → Model
+formulaOnly F p = record {
+  F = F;
+  initial = [];
+  persistent = [];
+  names = [];
+  clauses = [];
+  rules = [];
+  goals = [];
+  formulas = p ∷ [];
+}
+
+-- the rows of "The desk model and its traces", A to L, and those of persistence, of names and of formulas
 unfoldable pub cases : List Case
-unfolding desk translated published stored named
+unfolding desk translated published stored named signing negated
 cases =
     -- A to G, on the desk model
     case desk (trace 0 (0 ∷ [])) 0 1 65535 4 4 0 65535
@@ -207,6 +254,27 @@ cases =
     ∷ row 3 (ruled [] (maker [] [] (1024 ∷ 1 ∷ []))) (trace 0 []) 12 0 65535 0 0 0 65535
     ∷ row 3 (ruled [] (maker [] (2 ∷ []) (1024 ∷ []))) (trace 0 []) 6 0 65535 0 0 0 65535
     ∷ row 3 (ruled (2 ∷ 2 ∷ []) (maker [] [] [])) (trace 0 []) 7 0 65535 0 0 0 65535
+    -- formulas: signed without opening is an attack, signed after it is none, and so is nothing at all
+    ∷ row 4 signing (trace 1 (1 ∷ [])) 0 1 65535 1 1 0 65535
+    ∷ row 4 signing (trace 1 (0 ∷ 1 ∷ [])) 11 2 65535 1 2 0 65535
+    ∷ row 4 signing (trace 1 []) 11 0 65535 0 0 0 65535
+    -- Since: now, one state ago with its first part since, and broken by a fact of the closure
+    ∷ row 4 signing (trace 2 []) 0 0 65535 0 0 0 65535
+    ∷ row 4 signing (trace 2 (0 ∷ [])) 11 1 65535 0 1 0 65535
+    ∷ row 4 signing (trace 2 (0 ∷ 3 ∷ [])) 11 2 65535 0 0 0 65535
+    ∷ row 4 signing (trace 2 (0 ∷ 3 ∷ 1 ∷ [])) 0 3 65535 1 1 0 65535
+    -- Yesterday: false at the start, not the present state, the state before
+    ∷ row 4 signing (trace 3 []) 0 0 65535 0 0 0 65535
+    ∷ row 4 signing (trace 3 (1 ∷ [])) 0 1 65535 1 1 0 65535
+    ∷ row 4 signing (trace 3 (1 ∷ 2 ∷ [])) 11 2 65535 1 0 0 65535
+    -- goal numbers run on; a step that is blocked comes first
+    ∷ row 4 signing (trace 0 (1 ∷ [])) 0 1 65535 1 1 0 65535
+    ∷ row 4 signing (trace 4 []) 9 0 65535 0 0 0 65535
+    ∷ row 4 signing (trace 1 (2 ∷ [])) 10 0 1 0 0 1 65535
+    -- 32 deep and 33; a fact of F or more comes before FORMULA
+    ∷ row 4 (formulaOnly 1 (negated 31)) (trace 0 []) 11 0 65535 0 0 0 65535
+    ∷ row 4 (formulaOnly 1 (negated 32)) (trace 0 []) 17 0 65535 0 0 0 65535
+    ∷ row 4 (formulaOnly 0 (negated 32)) (trace 0 []) 6 0 65535 0 0 0 65535
     ∷ []
 
 -- the claim: with enough room, the verdict on every case's files shows the line expected

@@ -1,21 +1,23 @@
 -- What demands 1 to 3 promise of a verdict, as statements about the definitions beside this file.
 -- proofs/Theorems.antt proves each of them.
-use Prim.Native.Nat.{ℕ, _+_, _≤_, _<_}
+use Prim.Native.Nat.{ℕ, _+_, _-_, _≤_, _<_}
 use mathlib.Core.Path.{_≡_}
 use mathlib.Core.Logic.{_↔_, _⊎_}
-use mathlib.Core.Bool.{true, false}
-use mathlib.Core.List.{List, []}
+use mathlib.Core.Bool.{Bool, true, false}
+use mathlib.Core.List.{List, [], _∷_}
 use mathlib.Core.Option.{none}
 use lib.ListN.{length, getD, take}
 use Rattle.sets.specs.Sets.{Facts, _∈_}
-use Rattle.meaning.specs.Model.{Model, State, ruleOf, goalOf, start}
+use Rattle.meaning.specs.Past.{Formula, truth}
+use Rattle.meaning.specs.Model.{Goal, Model, State, ruleOf, aimOf, start}
+use Rattle.meaning.specs.Model.Aim.{state, formula}
 use Rattle.meaning.specs.Rounds.{closure, roundNumber}
 use Rattle.meaning.specs.Run.Condition.{positive, negative, unused}
-use Rattle.meaning.specs.Published.{Path}
+use Rattle.meaning.specs.Published.{Path, earlier}
 use Rattle.meaning.specs.Promises.{FirstUnmet, FirstUnmetOf, Makes}
 use Rattle.records.specs.Words.{word}
 use Rattle.records.specs.Records.{records}
-use Rattle.sections.specs.declared.Role.the-variants.{Goals}
+use Rattle.sections.specs.declared.Role.the-variants.{Goals, Formulas}
 use Rattle.files.specs.Files.{sectionOf, modelOf, traceOf, pairFault}
 use Rattle.files.specs.Answers.{partOf}
 use Rattle.causes.specs.Causes.{Cause, Refusing}
@@ -67,7 +69,7 @@ Stopping k = (k ≡ 10) ⊎ (k ≡ 13)
 abbrev pub endNumber : List ℕ → List ℕ → ℕ
 endNumber m t = numberOf (outcome m t .ending)
 
--- "None is given in any other case.": each number exactly when its cause is there, 1 for no room, 2 to 9 and 12 for
+-- "None is given in any other case.": each number exactly when its cause is there, 1 for no room, 2 to 9, 12 and 17 for
 -- what document 01's table and order say of the two files, any other for the outcome of a well-formed pair
 pub record Given (m t : List ℕ) (l : Lent) (number : ℕ) : Type 0 where
   pub room : (number ≡ 1) ↔ (noSpace l ≡ true)
@@ -76,21 +78,25 @@ pub record Given (m t : List ℕ) (l : Lent) (number : ℕ) : Type 0 where
 
 -- ---- the bytes at fault
 
--- "For 0 and 1: the empty part at the model's start."; for 2 to 9 and 12 the number's cause in the words of 01's table,
--- with those bytes (`Cause`); for 10 and 13 "the two bytes in the trace", which are the blocked step's rule number; for
--- 11 "the attack state's record"
+-- "For 0 and 1: the empty part at the model's start."; for 2 to 9, 12 and 17 the number's cause in the words of 01's
+-- table, with those bytes (`Cause`); for 10 and 13 "the two bytes in the trace", which are the blocked step's rule
+-- number; for 11 "the attack state's record", and of a formula "its part is the formula's record" (document 02, wish
+-- 11), where "goal numbers run on from the attack states"
 pub record AtFault (m t : List ℕ) (v : Verdict) : Type 0 where
   pub empty : v .number ≤ 1 → v .part ≡ record { mark = 0; start = 0; size = 0 }
   pub cause : Refusing (v .number) → Cause m t (v .part .mark) (v .number) (partOf m t (v .part))
   pub entry : Stopping (v .number) → (v .part .mark ≡ 1) × (length (partOf m t (v .part)) ≡ 2)
       × (word (partOf m t (v .part)) ≡ getD (traceOf t .steps) (v .step) 0)
-  pub goal : v .number ≡ 11 → (v .part .mark ≡ 0)
+  pub state : v .number ≡ 11 → traceOf t .goal < length (modelOf m .goals) → (v .part .mark ≡ 0)
       × (partOf m t (v .part) ≡ getD (records (sectionOf m Goals)) (traceOf t .goal) [])
+  pub formula : v .number ≡ 11 → length (modelOf m .goals) ≤ traceOf t .goal → (v .part .mark ≡ 0)
+      × (partOf m t (v .part)
+      ≡ getD (records (sectionOf m Formulas)) (traceOf t .goal - length (modelOf m .goals)) [])
 
 -- ---- step, fact, rounds, held
 
 -- "step: for 10 the number of the blocked step from 0; for 0 and 11 the count of steps; otherwise 0", "fact: ..
--- otherwise 65,535", "rounds .. 0 for 1 to 9", "held .. 0 for 1 to 9"; 12 is as these, 13 "all else as for BLOCKED"
+-- otherwise 65,535", "rounds .. 0 for 1 to 9", "held .. 0 for 1 to 9"; 12 and 17 are as these, 13 "all else as for BLOCKED"
 pub record Values (t : List ℕ) (v : Verdict) : Type 0 where
   pub refused : (v .number ≡ 1) ⊎ Refusing (v .number) → (v .step ≡ 0) × (v .rounds ≡ 0) × (v .held ≡ 0)
   pub ended : (v .number ≡ 0) ⊎ (v .number ≡ 11) → v .step ≡ length (traceOf t .steps)
@@ -111,7 +117,8 @@ pub record Named (X used : Facts) (P N names : List ℕ) (number : ℕ → ℕ) 
 
 -- "Verdict and line show both .. (`none` where there is no value)": for 10 of the blocked step's rule, for 11 of the
 -- attack state, in the closure of the last state reached; for every other number none. For 13 "the verdict's fact being
--- the first used name", P and N being met (wish 9)
+-- the first used name", P and N being met (wish 9). Where the goal is a formula, 11 says that it is true over the
+-- closures of all states reached, and "NOATTACK then has no fact" (wish 11)
 pub record Kinds (m t : List ℕ) (v : Verdict) : Type 0 where
   pub no-kind : (v .number ≡ 10 → ⊥) → (v .number ≡ 11 → ⊥) → (v .kind ≡ 0) × (v .round ≡ 65535)
   pub of-rule : v .number ≡ 10
@@ -120,11 +127,13 @@ pub record Kinds (m t : List ℕ) (v : Verdict) : Type 0 where
       let r = ruleOf M (getD (traceOf t .steps) (v .step) 0) in
       Named (closure (M .clauses) (S .facts)) (S .names) (r .P) (r .N) (r .names)
       (roundNumber (M .clauses) (S .facts)) v
-  pub of-goal : v .number ≡ 11
+  pub of-goal : v .number ≡ 11 → (G : Goal) → aimOf (modelOf m) (traceOf t .goal) ≡ state G
       → let M = modelOf m in
       let S = outcome m t .state in
-      let g = goalOf M (traceOf t .goal) in
-      Named (closure (M .clauses) (S .facts)) (S .names) (g .P) (g .N) [] (roundNumber (M .clauses) (S .facts)) v
+      Named (closure (M .clauses) (S .facts)) (S .names) (G .P) (G .N) [] (roundNumber (M .clauses) (S .facts)) v
+  pub of-formula : v .number ≡ 11 → (p : Formula) → aimOf (modelOf m) (traceOf t .goal) ≡ formula p
+      → (v .fact ≡ 65535) × (v .kind ≡ 0) × (v .round ≡ 65535)
+      × (truth p (closure (modelOf m .clauses) (outcome m t .state .facts) ∷ outcome m t .past) ≡ true)
   pub of-name : v .number ≡ 13
       → let M = modelOf m in
       let S = outcome m t .state in
@@ -148,18 +157,28 @@ pub record UsedAt (m t : List ℕ) (i n : ℕ) : Type 0 where
   pub first : FirstUnmetOf (closure (modelOf m .clauses) (state .facts)) state
       (ruleOf (modelOf m) (getD (traceOf t .steps) i 0)) (unused n)
 
+-- ---- formulas (document 02, wish 11)
+
+-- every step is a transition, and this is the formula's value in the last state: over the closures of all states
+-- reached, its own first
+pub record FormulaEnds (m t : List ℕ) (p : Formula) (value : Bool) : Type 0 where
+  pub last : State
+  pub path : Path (modelOf m) (start (modelOf m)) (traceOf t .steps) last
+  pub is : truth p (closure (modelOf m .clauses) (last .facts) ∷ earlier path) ≡ value
+
 -- the part lies in the file marked
 pub data InFile (m t : List ℕ) (p : Part) : Type 0 where
   inModel : p .mark ≡ 0 → p .start + p .size ≤ length m → InFile m t p
   inTrace : p .mark ≡ 1 → p .start + p .size ≤ length t → InFile m t p
 
--- ---- versions (document 02, wishes 2 and 9)
+-- ---- versions (document 02, wishes 2, 9 and 11)
 
--- "Versions 1 and 2 have none.": a model of version 1 or 2, and one without names in use at the start, the same lists.
--- "a persistent set, empty for version 1": then both have no persistent facts.
+-- "Versions 1 and 2 have none.": a model of version 1 or 2, and one without names in use at the start and without
+-- formulas, the same lists. "a persistent set, empty for version 1": then both have no persistent facts.
 pub record SameLists (one two : List ℕ) : Type 0 where
   pub version : getD one 0 0 < 3
   pub none-names : modelOf two .names ≡ []
+  pub none-formulas : modelOf two .formulas ≡ []
   pub F : modelOf one .F ≡ modelOf two .F
   pub initial : modelOf one .initial ≡ modelOf two .initial
   pub persistent : modelOf one .persistent ≡ modelOf two .persistent

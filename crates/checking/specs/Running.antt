@@ -6,14 +6,17 @@ use mathlib.Core.List.{List, []}
 use mathlib.Core.Option.{Option, none, some}
 use lib.ListN.{length, getD, drop}
 use Rattle.sets.specs.Sets.{Facts}
-use Rattle.meaning.specs.Model.{Model, State, goalOf, start}
-use Rattle.meaning.specs.Run.{Condition, Reached, Ending, Outcome, conditions, unmet, reach}
+use Rattle.meaning.specs.Past.{History}
+use Rattle.meaning.specs.Model.{Model, Aim, State, aimOf, start}
+use Rattle.meaning.specs.Model.Aim.{state, formula}
+use Rattle.meaning.specs.Run.{Condition, Reached, Ending, Outcome, reach, askedOf}
 use Rattle.meaning.specs.Run.Condition.{positive, negative, unused}
-use Rattle.meaning.specs.Run.Ending.{attack, blocked, notMet}
+use Rattle.meaning.specs.Run.Ending.{attack, blocked, notMet, upheld}
 use Rattle.meaning.specs.Rounds.{rounds, roundNumber}
 use Rattle.facts.specs.Facts.{members, Kept}
 use Rattle.files.specs.Files.{pairFault, modelOf, traceOf}
 use Rattle.closing.specs.Closing.{Filled}
+use Rattle.past.specs.Remembering.{Remembers}
 use Rattle.checking.specs.Verdict.{Lent, namesIn, outcome, Left}
 use Rattle.checking.specs.declared.conditions.Condition.the-variants as condition
 use Rattle.checking.specs.declared.conditions.Unmet.the-variants as found
@@ -38,6 +41,7 @@ unfolding conditionOf
 endingOf ending.Attack = attack
 endingOf (ending.Blocked c) = blocked (conditionOf c)
 endingOf (ending.NotMet c) = notMet (conditionOf c)
+endingOf ending.Upheld = upheld
 
 -- a table has an entry for the condition's fact, where it is judged by the table
 unfoldable pub KnownIn : Condition → Type 0
@@ -68,8 +72,22 @@ unfoldable pub counted : Model → Reached → ℕ
 unfolding rounds
 counted m r = elim (r .stop) [ none ↦ r .earlier | some c ↦ r .earlier + rounds (m .clauses) (r .state .facts) ]
 
--- what the search over the steps leaves: the last state, and where a step is blocked in it, its round numbers
-pub record StepsTo (m t : List ℕ) (before after : Lent) (r : Steps) : Type 0 where
+-- what the trace is about
+abbrev pub aimed : List ℕ → List ℕ → Aim
+aimed m t = aimOf (modelOf m) (traceOf t .goal)
+
+-- what is kept of a history for a goal: nothing for an attack state, a bit for each code of a formula
+abbrev pub Keeps : Aim → History → List ℕ → Type 0
+Keeps (state G) h kept = Unit
+Keeps (formula p) h kept = Remembers p h kept
+
+-- the ending is what is asked of a state with the closure X, after whatever history this is kept of
+abbrev pub Asked : Aim → Facts → Facts → List ℕ → Ending → Type 0
+Asked aim X used kept e = (h : History) → Keeps aim h kept → e ≡ askedOf aim X used h
+
+-- what the search over the steps leaves: the last state, and where a step is blocked in it, its round numbers; what is
+-- kept of the closures before it
+pub record StepsTo (m t : List ℕ) (before after : Lent) (bits : List ℕ) (r : Steps) : Type 0 where
   pub fired : r .fired ≡ reached m t .fired
   pub stop : unmetIn (r .stop) ≡ reached m t .stop
   pub rounds : r .rounds ≡ counted (modelOf m) (reached m t)
@@ -81,14 +99,9 @@ pub record StepsTo (m t : List ℕ) (before after : Lent) (r : Steps) : Type 0 w
   pub beyond : drop 4096 (after .table) ≡ drop 4096 (before .table)
   pub filled : (c : Condition) → reached m t .stop ≡ some c
       → Filled (modelOf m .clauses) (reached m t .state .facts) (before .table) (after .table)
+  pub keeps : Keeps (aimed m t) (reached m t .past) bits
   pub within : r .fired ≤ length (traceOf t .steps)
   pub bound : r .rounds ≤ 4096 * (r .fired + 1)
-
--- what the attack state's conditions come to in a set: in the last state's closure, what `asked` says
-unfoldable pub askedIn : Model → ℕ → Facts → Facts → Ending
-unfolding unmet conditions goalOf
-askedIn m g X used =
-    elim (unmet X used (conditions (goalOf m g .P) (goalOf m g .N) [])) [ none ↦ attack | some c ↦ notMet c ]
 
 -- what the run has come to, with the facts held
 pub record Shows (o : Outcome) (steps : ℕ) (e : Ended) (held : ℕ) : Type 0 where

@@ -12,7 +12,7 @@ use Rattle.meaning.specs.Model.{Model}
 use Rattle.meaning.specs.Rounds.{roundNumber}
 use Rattle.meaning.specs.Run.{Condition, Ending, Outcome, run}
 use Rattle.meaning.specs.Run.Condition.{positive, negative, unused}
-use Rattle.meaning.specs.Run.Ending.{attack, blocked, notMet}
+use Rattle.meaning.specs.Run.Ending.{attack, blocked, notMet, upheld}
 use Rattle.facts.specs.Facts.{within, members, Kept}
 use Rattle.records.specs.Records.{given, _orElse_}
 use Rattle.files.specs.Files.{Blamed, modelOf, traceOf, pairFault}
@@ -69,12 +69,14 @@ stopNumber (positive f) = 10
 stopNumber (negative f) = 10
 stopNumber (unused n) = 13
 
--- 0 ATTACK, 10 BLOCKED, 11 NOATTACK, 13 USED
+-- 0 ATTACK, 10 BLOCKED, 11 NOATTACK, 13 USED; "ATTACK exactly if the formula is false in the last state" (document 02,
+-- wish 11), so that a formula that is true is 11
 unfoldable pub numberOf : Ending → ℕ
 unfolding stopNumber
 numberOf attack = 0
 numberOf (blocked c) = stopNumber c
 numberOf (notMet c) = 11
+numberOf upheld = 11
 
 -- a condition's fact; "the verdict's fact being the first used name"
 unfoldable pub factIn : Condition → ℕ
@@ -82,12 +84,13 @@ factIn (positive f) = f
 factIn (negative f) = f
 factIn (unused n) = n
 
--- "for 10 and 11 the first unmet condition ..; otherwise 65,535"
+-- "for 10 and 11 the first unmet condition ..; otherwise 65,535"; for a formula "NOATTACK then has no fact" (wish 11)
 unfoldable pub factOf : Ending → ℕ
 unfolding factIn
 factOf attack = 65535
 factOf (blocked c) = factIn c
 factOf (notMet c) = factIn c
+factOf upheld = 65535
 
 -- document 02, wish 7: "whether the unmet one was positive or negative": 1 is positive, 2 negative; of a used name,
 -- "kind and round none"
@@ -102,6 +105,7 @@ unfolding kindIn
 kindOf attack = 0
 kindOf (blocked c) = kindIn c
 kindOf (notMet c) = kindIn c
+kindOf upheld = 0
 
 -- "if negative, the round in which its fact arose", by the round numbers of the state in which it was judged
 unfoldable pub roundIn : (ℕ → ℕ) → Condition → ℕ
@@ -115,14 +119,17 @@ unfolding roundIn
 roundOf number attack = 65535
 roundOf number (blocked c) = roundIn number c
 roundOf number (notMet c) = roundIn number c
+roundOf number upheld = 65535
 
 -- "9 and 10: the two bytes in the trace. 11: the attack state's record.": the blocked step's entry stands after the
--- attack state's; for 13 "all else as for BLOCKED"
+-- attack state's; for 13 "all else as for BLOCKED"; of a formula that is true, "its part is the formula's record" (wish
+-- 11)
 unfoldable pub partFor : List ℕ → List ℕ → ℕ → Ending → Part
 unfolding entryPart goalPart traceOf
 partFor m t step attack = nothing
 partFor m t step (blocked c) = entryPart t (1 + step)
 partFor m t step (notMet c) = goalPart m (traceOf t .goal)
+partFor m t step upheld = goalPart m (traceOf t .goal)
 
 -- ---- the verdict
 

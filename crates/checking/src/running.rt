@@ -1,15 +1,20 @@
 // The run of a judged pair: the search over the steps and their conditions for the first that is not met, and what is
 // then asked of the last state reached. The caller has judged the pair and lends buffers of enough room.
 ghost use mathlib.Core.Path.{_≡_};
+ghost use mathlib.Core.List.{[]};
 ghost use mathlib.Core.Option.{none};
-ghost use Prim.Native.Nat.{_≤_};
+ghost use Prim.Native.Nat.{_<_, _≤_};
 ghost use lib.ListN.{length};
 ghost use Rattle.meaning.specs.Model.{start};
-ghost use Rattle.files.specs.Files.{pairFault, modelOf, traceOf};
+ghost use Rattle.meaning.specs.Run.{askedOf};
+ghost use mathlib.Core.Bool.{true};
+ghost use Rattle.sections.specs.Sections.{fits, sectionAt};
+ghost use Rattle.files.specs.Files.{pairFault, modelOf, entriesOf, traceOf};
+ghost use Rattle.files.specs.Known.{GoalCodes};
 ghost use Rattle.closing.specs.Closing.{numbered};
 ghost use Rattle.checking.specs.Verdict.{namesIn, outcome, ran, Left};
 ghost use Rattle.checking.specs.Running.{Ready, stateIn, StepsTo, EndsAs, Shows, Numbers, endingOf};
-ghost use Rattle.checking.specs.Running.{askedIn};
+ghost use Rattle.checking.specs.Running.{aimed, Keeps, Asked};
 use super::Verdict;
 use super::conditions;
 use super::conditions::Condition;
@@ -28,11 +33,13 @@ pub struct Steps {
     pub stop: Unmet,
 }
 
-// How a run ends.
+// How a run ends: the goal is met, a step is blocked, the attack state has a condition that isn't met, or the formula is
+// true.
 pub enum Ending {
     Attack,
     Blocked(Condition),
     NotMet(Condition),
+    Upheld,
 }
 
 // How and at which step a run ended, and the rounds of all states reached.
@@ -42,22 +49,34 @@ pub struct Ended {
     pub rounds: usize,
 }
 
+// The number of the trace's goal. The caller has judged the trace.
+fn goal_of(trace: &[u8]) -> usize
+    requires { ⌜ (fits (now trace) (sectionAt (now trace) 0) ≡ true) × (2 ≤ length (entriesOf (now trace))) ⌝ }
+    ensures { λ r. ⌜ r ≡ traceOf (now (trace .entry)) .goal ⌝ }
+{
+    records::word_at(held::entries(trace), 0)
+}
+
 // Runs the steps from the initial state and stops at the first condition of a step's rule that is not met, P in its
 // order, then N in its order, then the names that it makes. All of a rule's conditions are judged before the state is
-// changed.
+// changed. Of each state that a step leaves, what the goal's formula has to know later is kept.
 fn search(
     model: &[u8],
     trace: &[u8],
+    codes: &[u8],
     state: &mut [u8],
     table: &mut [u16],
     names: &mut [u8],
+    kept: &mut [u8],
 ) -> Steps
     requires { ⌜ Ready (now model) (now trace) (record { state = now state; table = now table; names = now names })
-        × (stateIn (record { state = now state; table = now table; names = now names })
-        ≡ start (modelOf (now model))) ⌝ }
+        × (stateIn (record { state = now state; table = now table; names = now names }) ≡ start (modelOf (now model)))
+        × GoalCodes (now model) (traceOf (now trace) .goal) (now codes)
+        × Keeps (aimed (now model) (now trace)) [] (now kept) ⌝ }
     ensures { λ r. ⌜ StepsTo (now (model .entry)) (now (trace .entry))
         (record { state = now (state .entry); table = now (table .entry); names = now (names .entry) })
-        (record { state = now (state .exit); table = now (table .exit); names = now (names .exit) }) r ⌝ }
+        (record { state = now (state .exit); table = now (table .exit); names = now (names .exit) })
+        (now (kept .exit)) r ⌝ }
 {
     let entries = held::entries(trace);
     let steps = entries.len() / 2 - 1;
@@ -82,6 +101,7 @@ fn search(
             }
             i += 1;
         }
+        past::advance(codes, table, kept);
         let a = held::rule_list(model, rule, 2);
         stepping::apply(p, a, persistent, made, state, names);
         fired += 1;
@@ -93,18 +113,14 @@ fn search(
     }
 }
 
-// What is asked of the last state after all steps: whether the attack state is met in the closure that the table has.
-// An attack state makes no names.
-fn ask(model: &[u8], trace: &[u8], table: &[u16], names: &[u8]) -> Ending
-    requires { ⌜ (pairFault (now model) (now trace) ≡ none) × (4096 ≤ length (now table)) ⌝ }
-    ensures { λ r. ⌜ endingOf r ≡ askedIn (modelOf (now (model .entry))) (traceOf (now (trace .entry)) .goal)
-        (numbered (now (table .entry))) (namesIn (now (names .entry))) ⌝ }
+// Whether the attack state that the trace names is met in the closure that the table has. It makes no names.
+fn ask_state(model: &[u8], trace: &[u8], table: &[u16], names: &[u8]) -> Ending
+    requires { ⌜ (pairFault (now model) (now trace) ≡ none) × (4096 ≤ length (now table))
+        × (traceOf (now trace) .goal < length (modelOf (now model) .goals)) ⌝ }
+    ensures { λ r. ⌜ endingOf r ≡ askedOf (aimed (now (model .entry)) (now (trace .entry)))
+        (numbered (now (table .entry))) (namesIn (now (names .entry))) [] ⌝ }
 {
-    let goal = held::record(
-        model,
-        Role::Goals,
-        records::word_at(held::entries(trace), 0),
-    );
+    let goal = held::record(model, Role::Goals, goal_of(trace));
     let p = lists::list_of(goal, Kind::Goal, 0);
     let n = lists::list_of(goal, Kind::Goal, 1);
     match conditions::first_unmet(p, n, &goal[..0], table, names) {
@@ -113,18 +129,46 @@ fn ask(model: &[u8], trace: &[u8], table: &[u16], names: &[u8]) -> Ending
     }
 }
 
+// What is asked of the last state after all steps, in the closure that the table has: whether the attack state is met,
+// or the formula, which has codes, is false.
+fn ask(
+    model: &[u8],
+    trace: &[u8],
+    codes: &[u8],
+    table: &[u16],
+    names: &[u8],
+    kept: &mut [u8],
+) -> Ending
+    requires { ⌜ (pairFault (now model) (now trace) ≡ none) × (4096 ≤ length (now table))
+        × GoalCodes (now model) (traceOf (now trace) .goal) (now codes) ⌝ }
+    ensures { λ r. ⌜ Asked (aimed (now (model .entry)) (now (trace .entry))) (numbered (now (table .entry)))
+        (namesIn (now (names .entry))) (now (kept .entry)) (endingOf r) ⌝ }
+{
+    if codes.len() == 0 {
+        return ask_state(model, trace, table, names);
+    }
+    if past::advance(codes, table, kept) {
+        Ending::Upheld
+    } else {
+        Ending::Attack
+    }
+}
+
 // The end of a run whose steps led so: a blocked step, or what is asked of the last state, which is closed for it.
 fn finish(
     model: &[u8],
     trace: &[u8],
+    codes: &[u8],
     reached: Steps,
     state: &[u8],
     table: &mut [u16],
     names: &[u8],
+    kept: &mut [u8],
 ) -> Ended
     requires { ⌜ Ready (now model) (now trace) (record { state = now state; table = now table; names = now names })
         × StepsTo (now model) (now trace) (record { state = now state; table = now table; names = now names })
-        (record { state = now state; table = now table; names = now names }) reached ⌝ }
+        (record { state = now state; table = now table; names = now names }) (now kept) reached
+        × GoalCodes (now model) (traceOf (now trace) .goal) (now codes) ⌝ }
     ensures { λ r. ⌜ EndsAs (now (model .entry)) (now (trace .entry))
         (record { state = now (state .entry); table = now (table .entry); names = now (names .entry) })
         (record { state = now (state .entry); table = now (table .exit); names = now (names .entry) }) r ⌝ }
@@ -139,7 +183,7 @@ fn finish(
         Unmet::Nowhere => {
             let rounds = closing::close_judged(model, state, table);
             Ended {
-                ending: ask(model, trace, table, names),
+                ending: ask(model, trace, codes, table, names, kept),
                 step: reached.fired,
                 rounds: reached.rounds + rounds,
             }
@@ -191,7 +235,17 @@ fn verdict(model: &[u8], trace: &[u8], ended: Ended, held: usize, table: &[u16])
             held,
             kind: conditions::kind_of(c),
             round: conditions::round_of(c, table),
-            part: held::goal_part(model, records::word_at(held::entries(trace), 0)),
+            part: held::goal_part(model, goal_of(trace)),
+        },
+        Ending::Upheld => Verdict {
+            number: 11,
+            step,
+            fact: 65535,
+            rounds,
+            held,
+            kind: 0,
+            round: 65535,
+            part: held::goal_part(model, goal_of(trace)),
         },
     }
 }
@@ -217,7 +271,9 @@ pub fn run(
         state,
         names,
     );
-    let reached = search(model, trace, state, table, names);
-    let ended = finish(model, trace, reached, state, table, names);
+    let codes = held::formula(model, goal_of(trace));
+    let mut kept = [0u8; 32];
+    let reached = search(model, trace, codes, state, table, names, &mut kept);
+    let ended = finish(model, trace, codes, reached, state, table, names, &mut kept);
     verdict(model, trace, ended, facts::count(state, 512), table)
 }

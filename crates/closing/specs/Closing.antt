@@ -58,7 +58,8 @@ unfolding first
 someFrom F S = ltb (first (λ f. leb F f && S f) 4096) 4096
 
 -- "it gives 1 to 8 below for what it is lent, then 6 for a starting state with a bit set from F on": the refusal's
--- number
+-- number. 12 and 17 (document 02, wishes 9 and 11) are among the model's: "A number that a later request adds for the
+-- model is given wherever the model is judged"
 unfoldable pub closeRefusal : List ℕ → List ℕ → List ℕ → Option ℕ
 unfolding given _orElse_ noRoom modelFault someFrom factCount
 closeRefusal model state table =

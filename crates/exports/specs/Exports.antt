@@ -7,7 +7,7 @@ use mathlib.Core.List.{List, [], _∷_, _++_}
 use mathlib.Core.Option.{Option, none, some, Option·map}
 use lib.Dec.{ltb}
 use lib.ListN.{length, take, drop}
-use Rattle.meaning.specs.Model.{Model}
+use Rattle.meaning.specs.Model.{Model, aims}
 use Rattle.meaning.specs.Rounds as meant
 use Rattle.facts.specs.Facts.{members}
 use Rattle.records.specs.Answers.{code}
@@ -60,15 +60,16 @@ unfoldable pub ClosesOut : Bool → List ℕ → List ℕ → List ℕ → List 
 ClosesOut true m state table table' out out' r = (r ≡ 1) × (table' ≡ table) × (out' ≡ out)
 ClosesOut false m state table table' out out' r = RoundsOut m state table table' out out' r
 
--- "4 to 7 for the model" and 12, after its 2 and 3: "A refusal, here and in every later tool, is its number alone."
+-- "4 to 7 for the model", 12 and 17, after its 2 and 3: "A refusal, here and in every later tool, is its number alone."
 unfoldable pub modelRefusal : List ℕ → Option ℕ
 unfolding modelFault
 modelRefusal m = Option·map (λ f. f .number) (modelFault m)
 
 -- "1. sizes: exactly 2 bytes, F; .. 3. clauses; 4. rules; 5. attack states: records.": F, and how many records each of
--- these sections has
+-- these sections has, the formulas with the attack states: "Goal numbers run on from the attack states." (document 02,
+-- wish 11)
 unfoldable pub figures : Model → List ℕ
-figures M = M .F ∷ length (M .clauses) ∷ length (M .rules) ∷ length (M .goals) ∷ []
+figures M = M .F ∷ length (M .clauses) ∷ length (M .rules) ∷ length (aims M) ∷ []
 
 -- the answer with room for a model's figures
 pub record FiguresOut (m out out' : List ℕ) (r : ℕ) : Type 0 where

@@ -94,7 +94,7 @@ fn put_figures(facts: usize, n: Counts, out: &mut [u64])
     out[3] = n.goals as u64;
 }
 
-// What a model has: 0, with its facts, clauses, rules and attack states in the first four entries of `out`, or a
+// What a model has: 0, with its facts, clauses, rules and goals in the first four entries of `out`, or a
 // refusal's number, with nothing changed. Without room for them the answer is 1.
 #[no_mangle]
 pub extern "C" fn cantivorex_count(model: &[u8], out: &mut [u64]) -> u8

@@ -3,7 +3,7 @@ use Prim.Native.Nat.{ℕ, _≤_, _<_}
 use mathlib.Core.Path.{_≡_, refl, _∙_, sym, ap}
 use mathlib.Core.Bool.{Bool, true, false, cond}
 use mathlib.Core.Logic.{⊎-elim}
-use mathlib.Core.List.{List, [], List·Memᴰ·head, Memᴰ·of-map}
+use mathlib.Core.List.{List, [], map, List·Memᴰ·head, Memᴰ·of-map}
 use mathlib.Core.Option.{none}
 use native.Mathlib.Omega.{arith}
 use lib.Dec.{lit<}
@@ -15,6 +15,7 @@ use Rattle.meaning.specs.Model.{Clause, Rule, Goal}
 use Rattle.records.specs.Words.{words, ascending}
 use Rattle.records.specs.Records.{records, rows, listCount, listOf, most, judge, firstFault}
 use Rattle.records.proofs.Words.{even-length}
+use Rattle.records.proofs.Sections.{records-none}
 use Rattle.lists.specs.Lists.{AllCut}
 use Rattle.records.specs.declared.Kind.{Kind}
 use Rattle.records.specs.declared.Kind.the-variants as kind
@@ -22,11 +23,13 @@ use Rattle.lists.proofs.Laws.{clause-lists, judged-count, judged-cut}
 use Rattle.lists.proofs.Rows.{no-fourth, judged-facts}
 use Rattle.sections.specs.Sections.{ruleKind, reader}
 use Rattle.sections.specs.declared.Role.the-variants.{Sizes, Initial, Persistent, Names, Clauses, Rules, Goals}
-use Rattle.files.specs.Files.{sectionOf, factCount, clauseOf, ruleIn, goalIn, modelOf, shapeFault, modelFault}
+use Rattle.sections.specs.declared.Role.the-variants.{Formulas}
+use Rattle.files.specs.Files.{sectionOf, factCount, clauseOf, ruleIn, goalIn, formulaIn, modelOf, shapeFault}
+use Rattle.files.specs.Files.{modelFault}
 use Rattle.files.specs.Known.{KnownNames}
 use Rattle.files.specs.Answers.{countsOf, judged}
 use Rattle.files.specs.declared.Judged.{Judged}
-use Rattle.files.proofs.Roles.{one-lacks, names-lacking, section-absent}
+use Rattle.files.proofs.Roles.{one-lacks, names-lacking, formulas-lacking, section-absent}
 use Rattle.files.proofs.Shaped.{judged-section}
 use Rattle.files.proofs.Order.{all-fine, sizes-fine, bare-even, bare-fine}
 
@@ -46,12 +49,19 @@ pub none-persistent : (file : List ℕ) → getD file 0 0 ≡ 1 → modelOf file
 unfolding modelOf words
 none-persistent file first = ap words (section-absent file Persistent (one-lacks file (omega arith)))
 
--- A model of version 1 or 2 has no names,
+-- A model of version 1 or 2 has no names;
 pub none-named : (file : List ℕ) → getD file 0 0 < 3 → modelOf file .names ≡ []
 unfolding modelOf words
 none-named file h = ap words (section-absent file Names (names-lacking file h))
 
--- and its rules make none, as records
+-- one of version 1, 2 or 3 has no formulas,
+pub none-formulas : (file : List ℕ) → getD file 0 0 < 4 → modelOf file .formulas ≡ []
+unfolding modelOf
+none-formulas file h =
+    let absent = section-absent file Formulas (formulas-lacking file h) in
+    ap (map formulaIn) (ap records absent ∙ records-none)
+
+-- and the rules of version 1 or 2 make none, as records
 pub makes-none : (version : ℕ) (r : List ℕ) → version < 3 → ruleIn version r .names ≡ []
 unfolding ruleIn ruleKind
 makes-none version r h =
@@ -114,7 +124,7 @@ module _ (file : List ℕ) (fine : shapeFault file ≡ none) where
         even = even-length (sectionOf file Names) (bare-even true 1024 (sectionOf file Names) fine);
       }
 
-  -- No record of the clauses, of the rules and of the attack states is at fault.
+  -- No record of the clauses, of the rules, of the formulas and of the attack states is at fault.
   pub clauses-judged : firstFault (judge kind.Clause (factCount file)) (sectionOf file Clauses) ≡ none
   unfolding reader
   clauses-judged = judged-section file fine Clauses
@@ -122,6 +132,10 @@ module _ (file : List ℕ) (fine : shapeFault file ≡ none) where
   pub rules-judged : firstFault (judge (ruleKind (getD file 0 0)) (factCount file)) (sectionOf file Rules) ≡ none
   unfolding reader
   rules-judged = judged-section file fine Rules
+
+  pub formulas-judged : firstFault (judge kind.Formula (factCount file)) (sectionOf file Formulas) ≡ none
+  unfolding reader
+  formulas-judged = judged-section file fine Formulas
 
   pub goals-judged : firstFault (judge kind.Goal (factCount file)) (sectionOf file Goals) ≡ none
   unfolding reader

@@ -1,4 +1,5 @@
 pub mod Roles
+pub mod Aims
 pub mod Shaped
 pub mod Answers
 pub mod Order
@@ -6,3 +7,4 @@ pub mod Laws
 pub mod Entries
 pub mod Traces
 pub mod Lists
+pub mod Formulas

@@ -11,7 +11,7 @@ use lib.Dec.{lit<}
 use lib.ListN.{length, getD, length-map, List·getD-map, List·getD-eq-default}
 use Rattle.sets.specs.Sets.{_∈_}
 use Rattle.sets.proofs.Laws.{below-or-from}
-use Rattle.meaning.specs.Model.{Rule, Goal, ruleOf, goalOf}
+use Rattle.meaning.specs.Model.{Rule, ruleOf}
 use Rattle.records.specs.Words.{word, words}
 use Rattle.records.specs.Records.{records, whole, listsOf, listOf, judge, firstFault}
 use Rattle.records.specs.declared.Kind.{Kind}
@@ -25,21 +25,17 @@ use Rattle.sections.specs.declared.Role.the-variants.{Initial, Rules, Goals}
 use Rattle.files.specs.Files.{sectionOf, factCount, ruleIn, goalIn, modelOf, shapeFault}
 use Rattle.files.specs.Known.{Known, KnownNames}
 use Rattle.files.proofs.Shaped.{judged-section}
+use Rattle.files.proofs.Aims.{state-there}
 use Rattle.files.proofs.Order.{all-fine, bare-even}
 use Rattle.files.proofs.Laws.{facts-bound, initial-below, rules-cut, goals-cut, rules-judged, goals-judged}
 
--- ---- rules and attack states as records
+-- ---- rules and attack states as records (attack states are goals: Aims.antt)
 
 -- A rule of the model is its record's lists; one that the model lacks has none.
 pub rule-in : (m : List ℕ) (k : ℕ)
     → ruleOf (modelOf m) k ≡ ruleIn (getD m 0 0) (getD (records (sectionOf m Rules)) k [])
 unfolding ruleOf modelOf ruleIn listOf listsOf whole word
 rule-in m k = List·getD-map (ruleIn (getD m 0 0)) (records (sectionOf m Rules)) k []
-
--- So is an attack state.
-pub goal-in : (m : List ℕ) (g : ℕ) → goalOf (modelOf m) g ≡ goalIn (getD (records (sectionOf m Goals)) g [])
-unfolding goalOf modelOf goalIn listOf listsOf whole word
-goal-in m g = List·getD-map goalIn (records (sectionOf m Goals)) g []
 
 -- No bytes are no record and have no lists.
 no-lists : (K : Kind) (j : ℕ) → listOf K [] j ≡ []
@@ -50,10 +46,6 @@ no-lists K j = refl
 pub rule-there : (m : List ℕ) {k : ℕ} → k < length (modelOf m .rules) → k < length (records (sectionOf m Rules))
 unfolding modelOf
 rule-there m h = rw length-map at h
-
-pub goal-there : (m : List ℕ) {g : ℕ} → g < length (modelOf m .goals) → g < length (records (sectionOf m Goals))
-unfolding modelOf
-goal-there m h = rw length-map at h
 
 -- A list of a record of a judged section is known.
 list-known : (m : List ℕ) → shapeFault m ≡ none → (K : Kind) (section : List ℕ)
@@ -112,7 +104,7 @@ module _ (m : List ℕ) (fine : shapeFault m ≡ none) where
 
   pub goal-record : {g : ℕ} → g < length (modelOf m .goals) → Cut kind.Goal (getD (records (sectionOf m Goals)) g [])
   unfolding AllCut
-  goal-record h = goals-cut m fine _ (record-in (records (sectionOf m Goals)) _ (goal-there m h))
+  goal-record h = goals-cut m fine _ (record-in (records (sectionOf m Goals)) _ (state-there m h))
 
   -- The lists of a rule's record are known.
   pub rule-known : {k : ℕ} → k < length (modelOf m .rules) → (j : ℕ) → j < 3 → (bytes : List ℕ)
@@ -130,7 +122,7 @@ module _ (m : List ℕ) (fine : shapeFault m ≡ none) where
 
   pub goal-known : {g : ℕ} → g < length (modelOf m .goals) → (j : ℕ) → j < 3 → (bytes : List ℕ)
       → ListBytes kind.Goal (getD (records (sectionOf m Goals)) g []) j bytes → Known bytes
-  goal-known h = list-known m fine kind.Goal (sectionOf m Goals) (goals-judged m fine) _ (goal-there m h)
+  goal-known h = list-known m fine kind.Goal (sectionOf m Goals) (goals-judged m fine) _ (state-there m h)
 
 -- ---- which lists they are
 
@@ -151,11 +143,11 @@ module _ (m : List ℕ) (k : ℕ) {bytes : List ℕ} where
   rule-A l = rw (rule-in m k) (l .facts)
 
   pub goal-P : ListBytes kind.Goal (getD (records (sectionOf m Goals)) k []) 0 bytes
-      → words bytes ≡ goalOf (modelOf m) k .P
+      → words bytes ≡ goalIn (getD (records (sectionOf m Goals)) k []) .P
   unfolding goalIn
-  goal-P l = rw (goal-in m k) (l .facts)
+  goal-P l = l .facts
 
   pub goal-N : ListBytes kind.Goal (getD (records (sectionOf m Goals)) k []) 1 bytes
-      → words bytes ≡ goalOf (modelOf m) k .N
+      → words bytes ≡ goalIn (getD (records (sectionOf m Goals)) k []) .N
   unfolding goalIn
-  goal-N l = rw (goal-in m k) (l .facts)
+  goal-N l = l .facts

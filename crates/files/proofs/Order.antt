@@ -5,39 +5,79 @@ use mathlib.Core.Path.{_≡_, refl, _∙_, sym, ap}
 use mathlib.Core.Bool.{Bool, true, false, not, _&&_, cond}
 use mathlib.Core.List.{List, _∷_}
 use mathlib.Core.Option.{Option, none, some, Option·some-ne-none}
+use native.Mathlib.Nat.{add-zero}
 use native.Mathlib.Numerals.{add-one}
 use native.Mathlib.Omega.{arith}
 use lib.Dec.{leb, ltb, eqb}
-use lib.ListN.{length, drop, getD, length-map, drop-of-length-le}
+use lib.ListN.{length, drop, getD, length-map, length-drop, drop-of-length-le}
 use lib.Seq.{drop-cons}
 use borrow.Author.Tests.{lt-ltb, le-ltb, leb-false, ltb-false, eqb-true, not-false}
 use Rattle.sets.specs.Sets.{any, _∈_}
-use Rattle.sets.proofs.Laws.{is-false, fails, any-intro}
+use Rattle.sets.proofs.Laws.{by-test, is-false, fails, any-intro}
 use Rattle.records.specs.Words.{word, words, odd, ascending}
-use Rattle.records.specs.Records.{given, _orElse_, records, bare}
+use Rattle.records.specs.Records.{given, _orElse_, recordOf, records, bare}
 use Rattle.records.specs.declared.Fault.{Fault}
+use Rattle.records.proofs.Sections.{record-size, records-none, records-next}
+use Rattle.records.proofs.Places.{by-records}
 use Rattle.sections.specs.Sections.{endAt, fits, sectionAt, payload, inSection, restFault, leftOver, allOf, sizes}
 use Rattle.sections.specs.Sections.{reader, entries}
 use Rattle.sections.specs.Answers.{passed}
 use Rattle.sections.specs.declared.Passed.{Passed}
 use Rattle.sections.specs.declared.Role.{Role}
-use Rattle.sections.specs.declared.Role.the-variants.{Sizes, Clauses, Rules, Goals}
+use Rattle.sections.specs.declared.Role.the-variants.{Sizes, Initial, Persistent, Names, Clauses, Rules, Goals}
+use Rattle.sections.specs.declared.Role.the-variants.{Formulas}
 use Rattle.sections.proofs.Fits.{neither, not-given, section-fine}
-use Rattle.sections.proofs.Parts.{fit-end, ended-size}
+use Rattle.sections.proofs.Parts.{fit-ended, fit-end, ended-size}
 use Rattle.sections.proofs.Answers.{passed-to, passed-fault, or-first, or-next}
-use Rattle.files.specs.Files.{roles, rolesOf, tag, indexOf, placeOfRole, factCount, clausesIn, modelOf}
+use Rattle.files.specs.Files.{roles, rolesOf, tag, indexOf, has, placeOfRole, sectionOf, factCount, clausesIn}
+use Rattle.files.specs.Files.{modelOf}
 use Rattle.files.specs.Files.{faultFrom, shapeFault}
 use Rattle.files.specs.Answers.{countsOf, noted, notedFrom}
 use Rattle.files.specs.declared.Counts.{Counts}
 use Rattle.files.proofs.Roles.{by-version, always, section-there}
+use Rattle.files.proofs.Aims.{aim-records}
+
+-- ---- counting
+
+records-few : (section : List ℕ) → length (records section) ≤ length section
+records-few =
+    by-records (λ section. length (records section) ≤ length section) (rw records-none (omega arith))
+    (λ section h few.
+    let left = length-drop (length (recordOf section)) section in
+    rw (records-next section h) (omega (arith, record-size section h)))
+
+-- A section has no more records than bytes.
+entries-few : (r : Role) (bytes : List ℕ) → entries r bytes ≤ length bytes
+unfolding entries
+entries-few Sizes bytes = omega arith
+entries-few Initial bytes = omega arith
+entries-few Persistent bytes = omega arith
+entries-few Names bytes = omega arith
+entries-few Clauses bytes = records-few bytes
+entries-few Rules bytes = records-few bytes
+entries-few Goals bytes = records-few bytes
+entries-few Formulas bytes = records-few bytes
+
+-- No section adds more goals than it has records.
+noted-few : (n : Counts) (r : Role) (k : ℕ) → noted n r k .goals ≤ n .goals + k
+unfolding noted
+noted-few n Sizes k = omega arith
+noted-few n Initial k = omega arith
+noted-few n Persistent k = omega arith
+noted-few n Names k = omega arith
+noted-few n Clauses k = omega arith
+noted-few n Rules k = omega arith
+noted-few n Goals k = omega arith
+noted-few n Formulas k = omega arith
 
 -- ---- the sections in order
 
 -- Judging with F facts has come to section i, at a place, with counts: the model's first fault and its counts are those
--- from here on.
+-- from here on, and no more goals are counted than bytes passed.
 pub record Onward (file : List ℕ) (F i at : ℕ) (n : Counts) : Type 0 where
   pub fault : shapeFault file ≡ faultFrom (drop i (rolesOf file)) F file at
   pub counts : countsOf file ≡ notedFrom (drop i (rolesOf file)) file at n
+  pub few : n .goals ≤ at
 
 module _ (file : List ℕ) (F : ℕ) where
   -- The sizes are judged without F; so an F that is the model's where they are fine finds the same first fault.
@@ -51,14 +91,23 @@ module _ (file : List ℕ) (F : ℕ) where
   abbrev counted : List Role → Counts
   counted rs =
       let count : Role → ℕ = λ r. length (records (payload file (sectionAt file (indexOf r rs)))) in
-      record { clauses = count Clauses; rules = count Rules; goals = count Goals }
+      let formulas = cond (ltb (indexOf Formulas rs) (length rs)) (count Formulas) 0 in
+      record { clauses = count Clauses; rules = count Rules; goals = count Goals + formulas }
+
+  -- a version without formulas has none
+  formulas-placed : length (records (sectionOf file Formulas))
+      ≡ cond (has file Formulas) (length (records (payload file (placeOfRole file Formulas)))) 0
+  unfolding sectionOf
+  formulas-placed =
+      by-test (has file Formulas) (λ e. rw e) (λ e. rw (e, records-none))
 
   counts-placed : countsOf file ≡ counted (rolesOf file)
-  unfolding countsOf modelOf clausesIn placeOfRole
+  unfolding countsOf clausesIn placeOfRole
   counts-placed =
       let there = always file in
       rw (
-        length-map,
+        aim-records file,
+        formulas-placed,
         length-map,
         length-map,
         section-there file Clauses (there .clauses),
@@ -71,7 +120,7 @@ module _ (file : List ℕ) (F : ℕ) where
   start-counts =
       counts-placed
       ∙ by-version (λ rs. counted rs ≡ notedFrom rs file 1 (record { clauses = 0; rules = 0; goals = 0 }))
-      refl refl refl (getD file 0 0)
+      (simp add-zero) (simp add-zero) (simp add-zero) refl (getD file 0 0)
 
   -- It starts with the sizes.
   pub onward-start : (inSection (reader (getD file 0 0) Sizes F) file 1 ≡ none → F ≡ factCount file)
@@ -82,24 +131,35 @@ module _ (file : List ℕ) (F : ℕ) where
         by-facts (inSection (reader (getD file 0 0) Sizes F) file 1)
         (λ k. faultFrom (drop 1 (rolesOf file)) k file (endAt file 1)) told;
     counts = start-counts;
+    few = omega arith;
   }
 
   module _ {i at : ℕ} {n : Counts} (on : Onward file F i at n) where
     module _ {r : Passed} (h : i < length (rolesOf file))
-        (is : r ≡ passed (inSection (reader (getD file 0 0) (getD (rolesOf file) i Goals) F) file at) (endAt file at)
-        (entries (getD (rolesOf file) i Goals) (payload file at))) where
-      here : drop i (rolesOf file) ≡ getD (rolesOf file) i Goals ∷ drop (suc i) (rolesOf file)
-      here = drop-cons (rolesOf file) i Goals h
+        (is : r ≡ passed (inSection (reader (getD file 0 0) (getD (rolesOf file) i Formulas) F) file at) (endAt file at)
+        (entries (getD (rolesOf file) i Formulas) (payload file at))) where
+      here : drop i (rolesOf file) ≡ getD (rolesOf file) i Formulas ∷ drop (suc i) (rolesOf file)
+      here = drop-cons (rolesOf file) i Formulas h
 
-      -- The section is fine: it comes to the next one.
+      -- The section is fine: the records counted are no more than its bytes.
+      pub onward-few : {end count : ℕ} → r ≡ Passed.To end count → (n .goals + count ≤ end) × (end ≤ length file)
+      onward-few told =
+          let role = getD (rolesOf file) i Formulas in
+          let (fine, ends, counts) = passed-to _ _ _ _ _ is told in
+          let (fit, _) = section-fine (reader (getD file 0 0) role F) file at fine in
+          let ended = fit-ended file at fit in
+          omega (arith, ended, ended-size file at _ ended, entries-few role (payload file at), on .few)
+
+      -- It comes to the next one.
       pub onward-next : {end count : ℕ} → r ≡ Passed.To end count
-          → Onward file F (i + 1) end (noted n (getD (rolesOf file) i Goals) count)
+          → Onward file F (i + 1) end (noted n (getD (rolesOf file) i Formulas) count)
       unfolding faultFrom notedFrom
-      onward-next told =
+      onward-next {count} told =
           let (fine, ends, counts) = passed-to _ _ _ _ _ is told in
           record {
             fault = on .fault ∙ rw (here, add-one i, ← ends) (or-next _ _ fine);
             counts = on .counts ∙ rw (here, add-one i, ← ends, ← counts);
+            few = omega (arith, onward-few told, noted-few n (getD (rolesOf file) i Formulas) count);
           }
 
       -- It is at fault: that is the model's first fault.

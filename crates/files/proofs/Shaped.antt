@@ -1,8 +1,7 @@
 -- What a model is that was judged for 4 to 7: each section's length fits, each section's reader finds nothing, and
 -- nothing stands after the last section.
 use Prim.Native.Nat.{ℕ, zero, suc, _+_, _≤_, _<_}
-use mathlib.Core.Path.{_≡_}
-use mathlib.Core.Logic.{_⊎_, inl, inr}
+use mathlib.Core.Path.{_≡_, refl}
 use mathlib.Core.Bool.{true, false}
 use mathlib.Core.List.{List, [], _∷_}
 use mathlib.Core.Option.{none}
@@ -12,12 +11,13 @@ use borrow.Author.Tests.{ltb-false}
 use lib.ListN.{length, getD}
 use Rattle.sections.specs.Sections.{sectionAt, fits, payload, inSection, reader}
 use Rattle.sections.specs.declared.Role.{Role}
-use Rattle.sections.specs.declared.Role.the-variants.{Persistent, Names, Goals}
+use Rattle.sections.specs.declared.Role.the-variants.{Formulas}
 use Rattle.sections.proofs.Fits.{neither, nothing-left, section-fine}
 use Rattle.sections.proofs.Parts.{fit-ended, ended-size}
 use Rattle.files.specs.Files.{rolesOf, indexOf, has, placeOfRole, sectionOf, factCount, faultFrom, shapeFault}
 use Rattle.files.specs.Files.{There}
-use Rattle.files.proofs.Roles.{absent-role, index-within, role-there, section-there, section-absent}
+use Rattle.files.proofs.Roles.Later.{persistent, names, formulas}
+use Rattle.files.proofs.Roles.{Later, absent-role, index-within, role-there, section-there, section-absent}
 use Rattle.files.proofs.Roles.{there-or-absent}
 
 -- ---- sections without a fault, from section j on
@@ -33,7 +33,7 @@ module _ (F : ℕ) (file : List ℕ) where
   -- Section j + i fits, and its reader finds nothing.
   fine-at : (rs : List Role) (j : ℕ) → faultFrom rs F file (sectionAt file j) ≡ none → (i : ℕ) → i < length rs
       → (fits file (sectionAt file (j + i)) ≡ true)
-      × (reader (getD file 0 0) (getD rs i Goals) F (payload file (sectionAt file (j + i))) ≡ none)
+      × (reader (getD file 0 0) (getD rs i Formulas) F (payload file (sectionAt file (j + i))) ≡ none)
   fine-at [] j e i h = absurd (not-suc-le-zero h)
   fine-at (r ∷ rs) j e zero h =
       rw add-zero (section-fine (reader (getD file 0 0) r F) file (sectionAt file j) (others r rs j e .0))
@@ -53,10 +53,11 @@ module _ (F : ℕ) (file : List ℕ) where
 -- ---- a judged model
 
 -- Nothing is found in a section that a model's version lacks.
-absent-fine : (version F : ℕ) (r : Role) → (r ≡ Persistent) ⊎ (r ≡ Names) → reader version r F [] ≡ none
+absent-fine : (version F : ℕ) {r : Role} → Later r → reader version r F [] ≡ none
 unfolding reader
-absent-fine version F r (inl is) = rw (is, reader)
-absent-fine version F r (inr is) = rw (is, reader)
+absent-fine version F persistent = refl
+absent-fine version F names = refl
+absent-fine version F formulas = refl
 
 module _ (file : List ℕ) (fine : shapeFault file ≡ none) where
   -- Each of its sections fits, by number,
@@ -78,7 +79,7 @@ module _ (file : List ℕ) (fine : shapeFault file ≡ none) where
       (λ there.
       let found = fine-at (factCount file) file rs 0 fine (indexOf r rs) there .1 in
       rw (section-there file r there) (rw (role-there rs r there, zero-add) at found))
-      (λ absent. rw (section-absent file r absent) (absent-fine _ (factCount file) r (absent-role file r absent)))
+      (λ absent. rw (section-absent file r absent) (absent-fine _ (factCount file) (absent-role file r absent)))
 
   -- Nothing stands after the last.
   pub file-end : length file ≤ sectionAt file (length (rolesOf file))

@@ -11,6 +11,7 @@ use lib.Seq.{drop-drop}
 use borrow.Author.Tests.{leb-false, ltb-false, lt-ltb}
 use Rattle.sets.specs.Sets.{every, first}
 use Rattle.sets.proofs.Laws.{both, passes, first-before}
+use Rattle.meaning.specs.Model.{aims}
 use Rattle.meaning.specs.Run.{named}
 use Rattle.records.specs.Words.{word, words, odd}
 use Rattle.records.specs.declared.Fault.{Fault}
@@ -72,7 +73,7 @@ module _ (goals rules : ℕ) (t : List ℕ) (fine : traceFault goals rules t ≡
       let (twos, long) = or-clear (odd bytes) (ltb (length bytes) 2) shape in
       (ltb-false _ _ long, even-length bytes twos)
 
-  -- They are the attack state's number and the rule numbers, 2 bytes each.
+  -- They are the goal's number and the rule numbers, 2 bytes each.
   pub trace-length : length (entriesOf t) ≡ 2 + 2 * length (traceOf t .steps)
   unfolding traceOf
   trace-length = rw length-words (omega (arith, even, length-drop 2 (entriesOf t)))
@@ -83,7 +84,7 @@ module _ (goals rules : ℕ) (t : List ℕ) (fine : traceFault goals rules t ≡
   unfolding traceOf
   trace-step i h = words-index (drop 2 (entriesOf t)) i h ∙ ap word (drop-drop (2 * i) 2 (entriesOf t))
 
-  -- the numbers are the attack state's and then the steps
+  -- the numbers are the goal's and then the steps
   entries : words (entriesOf t) ≡ traceOf t .goal ∷ traceOf t .steps
   unfolding traceOf
   entries = words-two (entriesOf t) (even .0)
@@ -106,7 +107,7 @@ module _ (goals rules : ℕ) (t : List ℕ) (fine : traceFault goals rules t ≡
       ltb-false _ _ (not-given _ _ (known .names)) in
       rw (← entries) (first-before (lacks goals rules numbers) (length numbers) i (omega (arith, ap length entries)))
 
-  -- The model has the attack state.
+  -- The model has the goal.
   pub trace-goal-known : traceOf t .goal < goals
   unfolding lacks
   trace-goal-known = leb-false _ _ (present 0 (omega arith))
@@ -125,7 +126,7 @@ pub record FinePair (m t : List ℕ) : Type 0 where
   pub model-version : wrongVersion modelVersion m ≡ none
   pub trace-version : wrongVersion traceVersion t ≡ none
   pub shape : shapeFault m ≡ none
-  pub trace : traceFault (length (modelOf m .goals)) (length (modelOf m .rules)) t ≡ none
+  pub trace : traceFault (length (aims (modelOf m))) (length (modelOf m .rules)) t ≡ none
 
 -- a file's fault and what is judged after it
 pub file-then : (blame : Fault → Blamed) (fault : Option Fault) (later : Option Blamed)
@@ -166,7 +167,7 @@ fine-pair m t e =
 pub pair-named : (m t : List ℕ) → pairFault m t ≡ none → T (named (modelOf m) (traceOf t))
 unfolding named
 pair-named m t e =
-    let goals = length (modelOf m .goals) in
+    let goals = length (aims (modelOf m)) in
     let rules = length (modelOf m .rules) in
     let fine = fine-pair m t e .trace in
     rw (lt-ltb _ _ (trace-goal-known goals rules t fine))
@@ -174,7 +175,7 @@ pair-named m t e =
 
 -- What a pair with no fault has, as the run needs it.
 module _ (m t : List ℕ) (fine : pairFault m t ≡ none) where
-  trace-fine : traceFault (length (modelOf m .goals)) (length (modelOf m .rules)) t ≡ none
+  trace-fine : traceFault (length (aims (modelOf m))) (length (modelOf m .rules)) t ≡ none
   trace-fine = fine-pair m t fine .trace
 
   pub pair-shape : shapeFault m ≡ none
@@ -197,10 +198,10 @@ module _ (m t : List ℕ) (fine : pairFault m t ≡ none) where
       → getD (traceOf t .steps) i 0 < length (modelOf m .rules)
   pair-step-known = trace-step-known _ _ t trace-fine
 
-  pub pair-goal-known : traceOf t .goal < length (modelOf m .goals)
+  pub pair-goal-known : traceOf t .goal < length (aims (modelOf m))
   pair-goal-known = trace-goal-known _ _ t trace-fine
 
--- The attack state's number is the first entry.
+-- The goal's number is the first entry.
 pub goal-entry : (t : List ℕ) → traceOf t .goal ≡ word (entriesOf t)
 unfolding traceOf
 goal-entry t = refl

@@ -1,13 +1,17 @@
 -- What the answers of this crate's functions are, in document 01's numbers and values, and the bytes that a part is.
-use Prim.Native.Nat.{ℕ, zero, suc, _+_, _*_}
+use Prim.Native.Nat.{ℕ, zero, suc, _+_, _-_, _*_}
+use mathlib.Core.Bool.{cond}
 use mathlib.Core.List.{List, [], _∷_}
 use mathlib.Core.Option.{Option, none, some}
+use lib.Dec.{ltb}
 use lib.ListN.{length, take, drop, getD}
+use Rattle.meaning.specs.Model.{aims}
 use Rattle.records.specs.Records.{records, placeOf}
 use Rattle.records.specs.declared.Fault.{Fault}
 use Rattle.sections.specs.Sections.{endAt, sectionAt, payload, entries}
 use Rattle.sections.specs.declared.Role.{Role}
 use Rattle.sections.specs.declared.Role.the-variants.{Sizes, Initial, Persistent, Names, Clauses, Rules, Goals}
+use Rattle.sections.specs.declared.Role.the-variants.{Formulas}
 use Rattle.files.specs.Files.{Blamed, placeOfRole, sectionOf, modelOf}
 use Rattle.files.specs.Files.Blamed.{model, trace}
 use Rattle.files.specs.declared.Counts.{Counts}
@@ -18,13 +22,14 @@ use Rattle.files.specs.declared.Part.{Part}
 
 -- ---- what was judged
 
--- "3. clauses; 4. rules; 5. attack states: records": how many of each a model has
+-- "3. clauses; 4. rules; 5. attack states: records": how many of each a model has, attack states and formulas together:
+-- "Goal numbers run on from the attack states." (document 02, wish 11)
 unfoldable pub countsOf : List ℕ → Counts
-unfolding modelOf
+unfolding modelOf aims
 countsOf file = record {
   clauses = length (modelOf file .clauses);
   rules = length (modelOf file .rules);
-  goals = length (modelOf file .goals);
+  goals = length (aims (modelOf file));
 }
 
 -- the answer for a model: its fault, or those counts
@@ -71,14 +76,22 @@ unfoldable pub entryPart : List ℕ → ℕ → Part
 unfolding sectionAt
 entryPart t i = record { mark = 1; start = sectionAt t 0 + 4 + 2 * i; size = 2 }
 
--- "the attack state's record"
-unfoldable pub goalPart : List ℕ → ℕ → Part
+-- "the record with its length": that of record k of the section of a role
+unfoldable pub recordPart : List ℕ → Role → ℕ → Part
 unfolding placeOfRole sectionOf records placeOf
-goalPart m g = record {
+recordPart m r k = record {
   mark = 0;
-  start = placeOfRole m Goals + 4 + placeOf g (records (sectionOf m Goals));
-  size = length (getD (records (sectionOf m Goals)) g []);
+  start = placeOfRole m r + 4 + placeOf k (records (sectionOf m r));
+  size = length (getD (records (sectionOf m r)) k []);
 }
+
+-- "the attack state's record"; for a formula "its part is the formula's record" (document 02, wish 11): that of goal g,
+-- where "goal numbers run on from the attack states"
+unfoldable pub goalPart : List ℕ → ℕ → Part
+unfolding modelOf recordPart
+goalPart m g =
+    let states = length (modelOf m .goals) in
+    cond (ltb g states) (recordPart m Goals g) (recordPart m Formulas (g - states))
 
 -- ---- between functions: counting records while sections are judged. No promise to the outside rests on this.
 
@@ -91,6 +104,7 @@ noted n Names k = n
 noted n Clauses k = record { clauses = k; rules = n .rules; goals = n .goals }
 noted n Rules k = record { clauses = n .clauses; rules = k; goals = n .goals }
 noted n Goals k = record { clauses = n .clauses; rules = n .rules; goals = k }
+noted n Formulas k = record { clauses = n .clauses; rules = n .rules; goals = n .goals + k }
 
 -- the counts with those of sections of these roles from a place on
 unfoldable pub notedFrom : List Role → List ℕ → ℕ → Counts → Counts

@@ -7,15 +7,18 @@ use mathlib.Core.Option.{Option, Option·map}
 use lib.Dec.{leb, ltb, eqb}
 use lib.ListN.{length, drop, getD}
 use Rattle.sets.specs.Sets.{first}
-use Rattle.meaning.specs.Model.{Clause, Rule, Goal, Model, Trace}
+use Rattle.meaning.specs.Model.{Clause, Rule, Goal, Model, Trace, aims}
+use Rattle.meaning.specs.Past.{Formula}
 use Rattle.records.specs.Words.{word, words, odd}
-use Rattle.records.specs.Records.{given, _orElse_, records, listOf}
+use Rattle.records.specs.Records.{given, _orElse_, records, listOf, codesIn}
 use Rattle.records.specs.declared.Fault.{Fault}
 use Rattle.records.specs.declared.Kind.the-variants as kind
+use Rattle.formulas.specs.Codes.{formulaOf}
 use Rattle.sections.specs.Sections.{endAt, inSection, leftOver, allOf, payload, sectionAt, reader}
 use Rattle.sections.specs.Sections.{ruleKind, tooLong, wrongVersion}
 use Rattle.sections.specs.declared.Role.{Role}
 use Rattle.sections.specs.declared.Role.the-variants.{Sizes, Initial, Persistent, Names, Clauses, Rules, Goals}
+use Rattle.sections.specs.declared.Role.the-variants.{Formulas}
 
 -- ---- the sections of a model
 
@@ -25,11 +28,13 @@ since first r version = cond (leb first version) (r ∷ []) []
 
 -- "Model sections, in order: 1. sizes .. 2. initial facts .. 3. clauses; 4. rules; 5. attack states"; "Model version 2
 -- has one more section after the initial facts: the persistent facts" (document 02, wish 2); "Model version 3 is
--- version 2 with a section of names in use at the start, after the persistent facts" (wish 9)
+-- version 2 with a section of names in use at the start, after the persistent facts" (wish 9); "Model version 4 is
+-- version 3 with a last section of at most 64 formulas, one record each" (wish 11)
 unfoldable pub roles : ℕ → List Role
 unfolding since
 roles version =
-    Sizes ∷ Initial ∷ since 2 Persistent version ++ since 3 Names version ++ Clauses ∷ Rules ∷ Goals ∷ []
+    Sizes ∷ Initial ∷ since 2 Persistent version ++ since 3 Names version ++ Clauses ∷ Rules ∷ Goals
+    ∷ since 4 Formulas version
 
 -- "A file starts with a version byte": the sections that the file of a model has
 unfoldable pub rolesOf : List ℕ → List Role
@@ -45,6 +50,7 @@ tag Names = 3
 tag Clauses = 4
 tag Rules = 5
 tag Goals = 6
+tag Formulas = 7
 
 -- how many sections stand before that of a role
 unfoldable pub indexOf : Role → List Role → ℕ
@@ -100,9 +106,14 @@ unfoldable pub goalIn : List ℕ → Goal
 unfolding listOf
 goalIn r = record { P = listOf kind.Goal r 0; N = listOf kind.Goal r 1 }
 
+-- "a last section of at most 64 formulas, one record each" (document 02, wish 11): the one that a record's codes are
+unfoldable pub formulaIn : List ℕ → Formula
+unfolding codesIn formulaOf
+formulaIn r = formulaOf (codesIn r)
+
 -- the model that a file is
 unfoldable pub modelOf : List ℕ → Model
-unfolding factCount words sectionOf records clausesIn ruleIn goalIn
+unfolding factCount words sectionOf records clausesIn ruleIn goalIn formulaIn
 modelOf file = record {
   F = factCount file;
   initial = words (sectionOf file Initial);
@@ -111,6 +122,7 @@ modelOf file = record {
   clauses = clausesIn (sectionOf file Clauses);
   rules = map (ruleIn (getD file 0 0)) (records (sectionOf file Rules));
   goals = map goalIn (records (sectionOf file Goals));
+  formulas = map formulaIn (records (sectionOf file Formulas));
 }
 
 -- "The trace has one section": its bytes
@@ -145,9 +157,9 @@ modelBytes = 65536
 abbrev pub traceBytes : ℕ
 traceBytes = 4096
 
--- "A file starts with a version byte, 1."; a model's may be 2 or 3 (document 02, wishes 2 and 9)
+-- "A file starts with a version byte, 1."; a model's may be 2, 3 or 4 (document 02, wishes 2, 9 and 11)
 abbrev pub modelVersion : ℕ
-modelVersion = 3
+modelVersion = 4
 
 abbrev pub traceVersion : ℕ
 traceVersion = 1
@@ -170,7 +182,7 @@ unfoldable pub traceCount : List ℕ → Option Fault
 unfolding given allOf words
 traceCount bytes = allOf (given (ltb (1 + 1024) (length (words bytes))) 5) bytes
 
--- entry i of the trace names what the model lacks: the attack state for entry 0, else a rule
+-- entry i of the trace names what the model lacks: the goal for entry 0, else a rule
 unfoldable pub lacks : ℕ → ℕ → List ℕ → ℕ → Bool
 lacks goals rules entries zero = leb goals (getD entries 0 0)
 lacks goals rules entries (suc i) = leb rules (getD entries (suc i) 0)
@@ -213,9 +225,10 @@ unfoldable pub filesFault : List ℕ → List ℕ → Option Blamed
 unfolding _orElse_ headsFault shapeFault
 filesFault m t = headsFault m t orElse Option·map model (shapeFault m)
 
--- "Then 4 for the trace .. then 5, then 9 .., all before any step is run."
+-- "Then 4 for the trace .. then 5, then 9 .., all before any step is run."; "Goal numbers run on from the attack
+-- states." (document 02, wish 11), so that 9 for a goal means as many as both together, or more
 unfoldable pub pairFault : List ℕ → List ℕ → Option Blamed
-unfolding _orElse_ filesFault traceFault modelOf
+unfolding _orElse_ filesFault traceFault modelOf aims
 pairFault m t =
     filesFault m t
-    orElse Option·map trace (traceFault (length (modelOf m .goals)) (length (modelOf m .rules)) t)
+    orElse Option·map trace (traceFault (length (aims (modelOf m))) (length (modelOf m .rules)) t)

@@ -28,7 +28,7 @@ fn blame(mark: u8, fault: Fault) -> Part
 pub fn judge_heads(model: &[u8], trace: &[u8]) -> Heads
     ensures { λ r. ⌜ r ≡ headed (headsFault (now (model .entry)) (now (trace .entry))) ⌝ }
 {
-    let model_head = head::head_number(model, 65536, 3);
+    let model_head = head::head_number(model, 65536, 4);
     let trace_head = head::head_number(trace, 4096, 1);
     if model_head == 2 {
         return Heads::Fault(2, blame(0, head::long_fault(model)));

@@ -7,14 +7,15 @@ ghost use mathlib.Core.List.{[]};
 ghost use Prim.Native.Nat.{_<_};
 ghost use lib.ListN.{length, getD};
 ghost use Rattle.sets.specs.Sets.{_∈_};
+ghost use Rattle.meaning.specs.Model.{aims};
 ghost use Rattle.records.specs.Words.{words};
 ghost use Rattle.records.specs.Records.{records};
 ghost use Rattle.lists.specs.Lists.{Cut, ListBytes};
 ghost use Rattle.sections.specs.Sections.{fits, sectionAt, ruleKind};
 ghost use Rattle.sections.specs.declared.Role.{Role};
 ghost use Rattle.files.specs.Files.{placeOfRole, sectionOf, entriesOf, factCount, ruleIn, modelOf, shapeFault};
-ghost use Rattle.files.specs.Known.{KnownNames};
-ghost use Rattle.files.specs.Answers.{goalPart};
+ghost use Rattle.files.specs.Known.{KnownNames, GoalCodes};
+ghost use Rattle.files.specs.Answers.{recordPart, goalPart};
 use super::Part;
 use super::model;
 use records::Kind;
@@ -72,19 +73,61 @@ pub fn record(model: &[u8], role: Role, k: usize) -> &[u8]
     records::record_at(bytes, records::place(bytes, k))
 }
 
-// The part of the model that an attack state's record is.
-pub fn goal_part(model: &[u8], g: usize) -> Part
-    requires { ⌜ (shapeFault (now model) ≡ none) × (g < length (records (sectionOf (now model) Role.Goals))) ⌝ }
-    ensures { λ r. ⌜ r ≡ goalPart (now (model .entry)) g ⌝ }
+// The part of the model that record k of a section of records is.
+fn record_part(model: &[u8], role: Role, k: usize) -> Part
+    requires { ⌜ (shapeFault (now model) ≡ none) × (k < length (records (sectionOf (now model) role))) ⌝ }
+    ensures { λ r. ⌜ r ≡ recordPart (now (model .entry)) role k ⌝ }
 {
-    let goals = section(model, Role::Goals);
-    let at = records::place(goals, g);
-    let record = records::record_at(goals, at);
+    let bytes = section(model, role);
+    let at = records::place(bytes, k);
+    let record = records::record_at(bytes, at);
     Part {
         mark: 0,
-        start: place_of(model, Role::Goals) + 4 + at,
+        start: place_of(model, role) + 4 + at,
         size: record.len(),
     }
+}
+
+// How many attack states the model has.
+fn state_count(model: &[u8]) -> usize
+    requires { ⌜ shapeFault (now model) ≡ none ⌝ }
+    ensures { λ r. ⌜ r ≡ length (modelOf (now (model .entry)) .goals) ⌝ }
+{
+    let goals = section(model, Role::Goals);
+    let mut at = 0;
+    let mut n = 0;
+    while at < goals.len() {
+        let record = records::record_at(goals, at);
+        at += record.len();
+        n += 1;
+    }
+    n
+}
+
+// The part of the model that goal g's record is, an attack state's or a formula's.
+pub fn goal_part(model: &[u8], g: usize) -> Part
+    requires { ⌜ (shapeFault (now model) ≡ none) × (g < length (aims (modelOf (now model)))) ⌝ }
+    ensures { λ r. ⌜ r ≡ goalPart (now (model .entry)) g ⌝ }
+{
+    let states = state_count(model);
+    if g < states {
+        record_part(model, Role::Goals, g)
+    } else {
+        record_part(model, Role::Formulas, g - states)
+    }
+}
+
+// The codes of goal g's formula; none where goal g is an attack state.
+pub fn formula(model: &[u8], g: usize) -> &[u8]
+    requires { ⌜ (shapeFault (now model) ≡ none) × (g < length (aims (modelOf (now model)))) ⌝ }
+    ensures { λ r. ⌜ GoalCodes (now (model .entry)) g (now r) ⌝ }
+{
+    let states = state_count(model);
+    if g < states {
+        return &model[..0];
+    }
+    let record = record(model, Role::Formulas, g - states);
+    &record[2..]
 }
 
 // The names in use at the start.

@@ -8,7 +8,8 @@ pub mod trace;
 
 use records::Fault;
 
-// How many clauses, rules and attack states a judged model has. With F in it too closing would need more stack.
+// How many clauses, rules and goals a judged model has, its attack states and formulas. With F in it too closing would
+// need more stack.
 pub struct Counts {
     pub clauses: usize,
     pub rules: usize,

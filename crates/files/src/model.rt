@@ -21,14 +21,16 @@ pub fn section_count(version: u8) -> usize
         5
     } else if version < 3 {
         6
-    } else {
+    } else if version < 4 {
         7
+    } else {
+        8
     }
 }
 
 // The role of section i of a model of the latest version.
 fn role_of(i: usize) -> Role
-    ensures { λ r. ⌜ r ≡ getD (roles 3) i Role.Goals ⌝ }
+    ensures { λ r. ⌜ r ≡ getD (roles 4) i Role.Formulas ⌝ }
 {
     match i {
         0 => Role::Sizes,
@@ -37,13 +39,14 @@ fn role_of(i: usize) -> Role
         3 => Role::Names,
         4 => Role::Clauses,
         5 => Role::Rules,
-        _ => Role::Goals,
+        6 => Role::Goals,
+        _ => Role::Formulas,
     }
 }
 
 // How many sections before section i a model of a version lacks.
 fn lacking(version: u8, i: usize) -> usize
-    ensures { λ r. ⌜ (getD (roles version) i Role.Goals ≡ getD (roles 3) (i + r) Role.Goals) × (r ≤ 2) ⌝ }
+    ensures { λ r. ⌜ (getD (roles version) i Role.Formulas ≡ getD (roles 4) (i + r) Role.Formulas) × (r ≤ 2) ⌝ }
 {
     if i < 2 {
         return 0;
@@ -60,7 +63,7 @@ fn lacking(version: u8, i: usize) -> usize
 // The role of section i of a model of a version.
 pub fn role_at(version: u8, i: usize) -> Role
     requires { ⌜ i < length (roles version) ⌝ }
-    ensures { λ r. ⌜ r ≡ getD (roles version) i Role.Goals ⌝ }
+    ensures { λ r. ⌜ r ≡ getD (roles version) i Role.Formulas ⌝ }
 {
     role_of(i + lacking(version, i))
 }
@@ -77,17 +80,20 @@ pub fn tag_of(role: Role) -> usize
         Role::Clauses => 4,
         Role::Rules => 5,
         Role::Goals => 6,
+        Role::Formulas => 7,
     }
 }
 
-// The counts with those of one section more.
+// The counts with those of one section more. The caller has seen that all of them are in a file.
 fn note(mut counts: Counts, role: Role, count: usize) -> Counts
+    requires { ⌜ counts .goals + count < 18446744073709551616 ⌝ }
     ensures { λ r. ⌜ r ≡ noted counts role count ⌝ }
 {
     match tag_of(role) {
         4 => counts.clauses = count,
         5 => counts.rules = count,
         6 => counts.goals = count,
+        7 => counts.goals = counts.goals + count,
         _ => {}
     }
     counts
@@ -105,7 +111,7 @@ fn facts_told(model: &[u8]) -> usize
     records::word_at(&model[5..end], 0)
 }
 
-// The model's first fault of 4 to 7 or 12, or its counts.
+// The model's first fault of 4 to 7, 12 or 17, or its counts.
 pub fn judge_shape(model: &[u8]) -> Judged
     ensures { λ r. ⌜ r ≡ judged (shapeFault (now (model .entry))) (countsOf (now (model .entry))) ⌝ }
 {
@@ -136,11 +142,11 @@ pub fn judge_shape(model: &[u8]) -> Judged
     Judged::Fine(counts)
 }
 
-// The model by itself: 2, 3, then 4 to 7 or 12.
+// The model by itself: 2, 3, then 4 to 7, 12 or 17.
 pub fn judge_model(model: &[u8]) -> Judged
     ensures { λ r. ⌜ r ≡ judged (modelFault (now (model .entry))) (countsOf (now (model .entry))) ⌝ }
 {
-    let number = head::head_number(model, 65536, 3);
+    let number = head::head_number(model, 65536, 4);
     if number == 2 {
         return Judged::Fault(head::long_fault(model));
     }

@@ -12,7 +12,7 @@ use super::Part;
 use records::Fault;
 use sections::Passed;
 
-// The trace's 4, 5 and 9, or how many steps it has, for a model with so many attack states and rules.
+// The trace's 4, 5 and 9, or how many steps it has, for a model with so many goals and rules.
 pub fn judge_trace(trace: &[u8], goals: usize, rules: usize) -> Passed
     ensures { λ r. ⌜ r ≡ passed (traceFault goals rules (now (trace .entry))) (endAt (now (trace .entry)) 1)
         (length (traceOf (now (trace .entry)) .steps)) ⌝ }
@@ -53,7 +53,7 @@ pub fn judge_trace(trace: &[u8], goals: usize, rules: usize) -> Passed
     Passed::To { end, count: steps }
 }
 
-// Where the first entry stands that names what the model lacks, the attack state first and then the rules; the end
+// Where the first entry stands that names what the model lacks, the goal first and then the rules; the end
 // where none does.
 fn lacking(entries: &[u8], goals: usize, rules: usize) -> usize
     ensures { λ r. ⌜ r

@@ -14,7 +14,7 @@ use Rattle.records.specs.Words.{word, words, odd}
 use Rattle.records.specs.Records.{listCount, cutLists, cut, whole, listsOf, listOf}
 use Rattle.lists.specs.Lists.{Cut, listAt, ListBytes}
 use Rattle.records.specs.declared.Kind.{Kind}
-use Rattle.records.specs.declared.Kind.the-variants.{Clause, Rule, Maker, Goal}
+use Rattle.records.specs.declared.Kind.the-variants.{Clause, Rule, Maker, Goal, Formula}
 use Rattle.records.proofs.Words.{odd-is}
 
 -- something behind a test that has to hold: the test holds
@@ -27,6 +27,15 @@ pub body-cut : (K : Kind) (r : List ℕ) (lists : List (List ℕ)) → listsOf K
     → cut K (drop 2 r) ≡ some lists
 unfolding listsOf
 body-cut K r lists e = behind (whole r) (cut K (drop 2 r)) e .1
+
+-- A formula has no lists.
+pub formula-lists : (r : List ℕ) (lists : List (List ℕ)) → listsOf Formula r ≡ some lists → lists ≡ []
+unfolding cut
+formula-lists r lists e = go (odd (drop 2 r)) (body-cut Formula r lists e)
+  where
+    go : (uneven : Bool) → cond uneven none (some []) ≡ some lists → lists ≡ []
+    go true e = absurd (Option·none-ne-some lists e)
+    go false e = cc
 
 -- list j of these bytes fits, and so do those before it
 pub Ahead : ℕ → List ℕ → Type 0
@@ -109,6 +118,7 @@ module _ (K : Kind) (r : List ℕ) (j : ℕ) (cuts : Cut K r) (h : j < listCount
       go Maker e h = cut-ahead _ (drop 2 r) (cuts .0) e j h
       go Rule e h = cut-ahead _ (drop 2 r) (cuts .0) e j h
       go Goal e h = cut-ahead _ (drop 2 r) (cuts .0) e j h
+      go Formula e h = absurd (not-suc-le-zero h)
 
   pub list-ahead : Ahead j (drop 2 r)
   list-ahead = list-there .0

@@ -16,9 +16,9 @@ use Rattle.records.specs.Words.{word, words}
 use Rattle.records.specs.Records.{records, judge, firstFault, listOf}
 use Rattle.records.specs.Records.{rows, listCount, cut, listsOf, overLong, wrongFact, wrongName, anyList}
 use Rattle.records.specs.declared.Kind.{Kind}
-use Rattle.records.specs.declared.Kind.the-variants.{Clause, Rule, Maker, Goal}
+use Rattle.records.specs.declared.Kind.the-variants.{Clause, Rule, Maker, Goal, Formula}
 use Rattle.lists.specs.Lists.{Cut}
-use Rattle.lists.proofs.Cuts.{body-cut, cut-length}
+use Rattle.lists.proofs.Cuts.{body-cut, cut-length, formula-lists}
 use Rattle.records.proofs.Judging.{or-clear}
 use Rattle.lists.proofs.Laws.{clause-lists, judged-as}
 
@@ -28,6 +28,7 @@ longest Clause = 16
 longest Rule = 32
 longest Maker = 32
 longest Goal = 32
+longest Formula = 0
 
 -- what asking the rows comes to, for the lists of a record: only a fourth list has names
 pub record Asked (K : Kind) (F : ℕ) (lists : List (List ℕ)) : Type 0 where
@@ -63,6 +64,10 @@ asked-goal F (a ∷ []) e = absurd (omega arith)
 asked-goal F (a ∷ b ∷ []) e = record { long = refl; fact = refl; name = refl }
 asked-goal F (a ∷ b ∷ c ∷ rest) e = absurd (omega arith)
 
+asked-formula : (F : ℕ) → Asked Formula F []
+unfolding anyList any rows longest
+asked-formula F = record { long = refl; fact = refl; name = refl }
+
 pub asked : (K : Kind) (F : ℕ) (r : List ℕ) (lists : List (List ℕ)) → listsOf K r ≡ some lists → Asked K F lists
 unfolding cut listCount rows Cut
 asked Clause F r lists e =
@@ -72,6 +77,7 @@ asked Clause F r lists e =
 asked Rule F r lists e = asked-rule F lists (cut-length 3 (drop 2 r) lists (body-cut Rule r lists e))
 asked Maker F r lists e = asked-maker F lists (cut-length 4 (drop 2 r) lists (body-cut Maker r lists e))
 asked Goal F r lists e = asked-goal F lists (cut-length 2 (drop 2 r) lists (body-cut Goal r lists e))
+asked Formula F r lists e = rw (formula-lists r lists e) (asked-formula F)
 
 -- A rule has no fourth list.
 pub no-fourth : (r : List ℕ) → listOf Rule r 3 ≡ []

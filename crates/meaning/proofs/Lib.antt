@@ -4,4 +4,5 @@ pub mod Meeting
 pub mod Reaching
 pub mod Runs
 pub mod Running
+pub mod Histories
 pub mod Theorems

@@ -1,18 +1,23 @@
--- Conditions: the first entry that passes a test, and the first unmet condition.
+-- Conditions and goals: the first entry that passes a test, the first unmet condition, and whether a goal is met.
 use Prim.Native.Nat.{ℕ}
+use native.Mathlib.Omega.{arith}
 use mathlib.Core.Path.{_≡_, refl, ap}
-use mathlib.Core.Logic.{_↔_, inl, inr}
+use mathlib.Core.Logic.{_↔_, _⊎_, inl, inr}
 use mathlib.Core.Bool.{Bool, true, false, not, Bool·not-not}
 use mathlib.Core.List.{List, [], _∷_, _++_, map, append-nil, append-assoc}
 use mathlib.Core.List.{List·Memᴰ·head, List·Memᴰ·tail, List·Memᴰ·cases-cons, List·Memᴰ·not-nil}
 use mathlib.Core.Option.{Option, none, some, Option·elim}
 use lib.Dec.{T}
 use Rattle.sets.specs.Sets.{Facts, _∈_}
-use Rattle.meaning.specs.Run.{Condition, met, conditions, find, unmet}
+use Rattle.meaning.specs.Past.{History, truth}
+use Rattle.meaning.specs.Model.{Aim}
+use Rattle.meaning.specs.Model.Aim.{state, formula}
+use Rattle.meaning.specs.Run.{Condition, met, conditions, find, unmet, Ending, askedOf}
 use Rattle.meaning.specs.Run.Condition.{positive, negative, unused}
-use Rattle.meaning.specs.Published.{Meets, Fresh}
-use Rattle.meaning.specs.Promises.{FirstUnmet}
+use Rattle.meaning.specs.Published.{Meets, Fresh, AimMet}
+use Rattle.meaning.specs.Promises.{FirstUnmet, GoalUnmet}
 use Rattle.meaning.specs.Promises.FirstUnmet.{absent, present, inUse}
+use Rattle.meaning.specs.Promises.GoalUnmet.{lacks, stillTrue}
 use Rattle.sets.proofs.Laws.{is-true, is-false, passes, fails, by-test, negated, affirmed}
 
 module _ {ℓ} {A : Type ℓ} (p : A → Bool) where
@@ -158,3 +163,41 @@ module _ (X used : Facts) (P N names : List ℕ) where
   pub first-used : {n : ℕ} → FirstUnmet X used P N names (unused n)
       → Meets X P N × (met rest : List ℕ) × (names ≡ met ++ n ∷ rest) × Fresh used met × T (used n)
   first-used (inUse h met rest e k t) = (h, met, rest, e, k, t)
+
+-- what is asked of the last state, by its closure, its names and the closures before
+module _ (X used : Facts) (past : History) where
+  -- What is met is an attack.
+  pub aim-met : (A : Aim) → AimMet X past A → askedOf A X used past ≡ Ending.attack
+  unfolding askedOf
+  aim-met (state G) h =
+      rw (unmet-from X used (G .P) (G .N) [] none (h, λ n i. absurd (List·Memᴰ·not-nil i)), askedOf)
+  aim-met (formula p) h = rw (h, askedOf)
+
+  -- What isn't met ends as it says.
+  pub aim-unmet : {A : Aim} {e : Ending} → GoalUnmet X used past A e → askedOf A X used past ≡ e
+  unfolding askedOf
+  aim-unmet (lacks {G} {c} h) = rw (unmet-from X used (G .P) (G .N) [] (some c) h, askedOf)
+  aim-unmet (stillTrue h) = rw (h, askedOf)
+
+  -- It is no attack, and no step is blocked.
+  pub no-attack : {A : Aim} {e : Ending} → GoalUnmet X used past A e → e ≡ Ending.attack → ⊥
+  no-attack (lacks h) i = let n : _≡_ {A = ℕ} 0 1 = cc in omega arith
+  no-attack (stillTrue h) i = let n : _≡_ {A = ℕ} 0 1 = cc in omega arith
+
+  pub not-blocked : {A : Aim} {e : Ending} → GoalUnmet X used past A e → (c : Condition) → e ≡ Ending.blocked c → ⊥
+  not-blocked (lacks h) c i = let n : _≡_ {A = ℕ} 0 1 = cc in omega arith
+  not-blocked (stillTrue h) c i = let n : _≡_ {A = ℕ} 0 1 = cc in omega arith
+
+  -- It is met, and that is an attack; or it isn't, and that is what askedOf computes.
+  pub aim-is : (A : Aim)
+      → ((askedOf A X used past ≡ Ending.attack) × AimMet X past A) ⊎ GoalUnmet X used past A (askedOf A X used past)
+  unfolding askedOf
+  aim-is (state G) = go (unmet X used (conditions (G .P) (G .N) [])) refl (unmet-is X used (G .P) (G .N) [])
+    where
+      go : (u : Option Condition) → unmet X used (conditions (G .P) (G .N) []) ≡ u → Met X used (G .P) (G .N) [] u
+          → ((askedOf (state G) X used past ≡ Ending.attack) × Meets X (G .P) (G .N))
+          ⊎ GoalUnmet X used past (state G) (askedOf (state G) X used past)
+      go none e h = inl (rw (e, askedOf), h .0)
+      go (some c) e h = inr (rw (e, askedOf) (lacks h))
+  aim-is (formula p) =
+      by-test (truth p (X ∷ past)) (λ e. inr (rw (e, askedOf) (stillTrue e))) (λ e. inl (rw (e, askedOf), e))

@@ -5,22 +5,23 @@ use native.Mathlib.Omega.{arith}
 use mathlib.Core.Path.{_≡_, refl, _∙_, ap}
 use mathlib.Core.Logic.{_↔_, _⊎_, inl, inr}
 use mathlib.Core.Bool.{Bool, true, false, not, _&&_, _||_}
-use mathlib.Core.List.{List, [], _∷_, List·Memᴰ·head, List·Memᴰ·tail}
+use mathlib.Core.List.{List, [], _∷_, _++_, List·Memᴰ·head, List·Memᴰ·tail}
 use mathlib.Core.Option.{Option, none, some}
 use lib.Dec.{T}
 use lib.ListN.{length, getD, take}
 use Rattle.sets.specs.Sets.{Facts, listed, _∈_}
-use Rattle.meaning.specs.Model.{Rule, Model, State, ruleOf, goalOf}
+use Rattle.meaning.specs.Past.{History}
+use Rattle.meaning.specs.Model.{Rule, Model, State, ruleOf, aims, aimOf}
 use Rattle.meaning.specs.Rounds.{rounds, closure}
-use Rattle.meaning.specs.Run.{Condition, conditions, unmet, unmetOf, after, Reached, stays, onward, reach}
+use Rattle.meaning.specs.Run.{Condition, unmetOf, after, Reached, stays, onward, reach}
 use Rattle.meaning.specs.Run.{asked, ending, outcomeOf}
-use Rattle.meaning.specs.Published.{HC, Next, Transition, Path}
+use Rattle.meaning.specs.Published.{HC, Next, Transition, Path, earlier}
 use Rattle.meaning.specs.Published.Path.{here, step}
 use Rattle.meaning.specs.Promises.{FirstUnmetOf, roundsOn, EndsSo, IsOutcomeFrom}
 use Rattle.meaning.specs.Promises.EndsSo.{attack, blocked, notMet}
 use Rattle.sets.proofs.Laws.{both, either, listed-is}
 use Rattle.meaning.proofs.Closing.{closure-is-HC}
-use Rattle.meaning.proofs.Meeting.{Met, unmet-is}
+use Rattle.meaning.proofs.Meeting.{Met, unmet-is, aim-is}
 
 -- What isn't removed is persistent where P has it.
 not-removed : (p k : Bool) → T (not (p && not k)) ↔ (T p → T k)
@@ -104,47 +105,45 @@ module _ (m : Model) where
   abbrev Leads : State → List ℕ → Reached → Type 0
   Leads S ks r =
       (p : Path m S (take (r .fired) ks) (r .state))
-      × (r .earlier + rounds (m .clauses) (r .state .facts) ≡ roundsOn p) × Stops ks (r .fired) (r .state) (r .stop)
+      × (r .earlier + rounds (m .clauses) (r .state .facts) ≡ roundsOn p) × (r .past ≡ earlier p)
+      × Stops ks (r .fired) (r .state) (r .stop)
 
   -- They do, if the model has their rules.
   reach-leads : (ks : List ℕ) → ((k : ℕ) → k ∈ ks → k < length (m .rules)) → (S : State) → Leads S ks (reach m S ks)
-  unfolding reach stays onward roundsOn
-  reach-leads [] h S = (here, zero-add _, refl)
+  unfolding reach stays onward roundsOn earlier fires
+  reach-leads [] h S = (here, zero-add _, refl, refl)
   reach-leads (k ∷ ks) h S =
       go (unmetOf m S (ruleOf m k)) refl (unmetOf-is S (ruleOf m k))
       (reach-leads ks (λ j i. h j (List·Memᴰ·tail i)) (afterRule m k S))
     where
       go : (u : Option Condition) → unmetOf m S (ruleOf m k) ≡ u → MetBy S (ruleOf m k) u
           → Leads (afterRule m k S) ks (reach m (afterRule m k S) ks) → Leads S (k ∷ ks) (reach m S (k ∷ ks))
-      go none i u (p, e, s) = rw (i, reach) (
+      go none i u (p, e, y, s) = rw (i, reach) (
         step (fires k S (h k (List·Memᴰ·head refl)) u) p,
         add-assoc _ (reach m (afterRule m k S) ks .earlier) _ ∙ ap (λ n. rounds (m .clauses) (S .facts) + n) e,
+        ap (λ past. past ++ closed m S ∷ []) y,
         stops-onward k _ ks _ (reach m (afterRule m k S) ks .stop) s,
       )
-      go (some c) i u l = rw (i, reach) (here, zero-add _, (omega arith, u))
+      go (some c) i u l = rw (i, reach) (here, zero-add _, refl, (omega arith, u))
 
 module _ (m : Model) (g : ℕ) where
   -- Where the steps stop, the run ends.
-  ends-so : g < length (m .goals) → (ks : List ℕ) (n e : ℕ) (S : State) (u : Option Condition) → Stops m ks n S u
-      → EndsSo m g ks (outcomeOf m g (record { fired = n; earlier = e; state = S; stop = u }))
+  ends-so : g < length (aims m) → (ks : List ℕ) (n e : ℕ) (past : History) (S : State) (u : Option Condition)
+      → Stops m ks n S u
+      → EndsSo m g ks (outcomeOf m g (record { fired = n; earlier = e; past = past; state = S; stop = u }))
   unfolding outcomeOf ending asked
-  ends-so l ks n e S (some c) (s, u) = blocked c refl s (closed m S) (closed-is m S) u
-  ends-so l ks n e S none s =
-      go (unmet (closed m S) (S .names) (conditions (goalOf m g .P) (goalOf m g .N) [])) refl
-      (unmet-is (closed m S) (S .names) (goalOf m g .P) (goalOf m g .N) [])
-    where
-      go : (u : Option Condition) → unmet (closed m S) (S .names) (conditions (goalOf m g .P) (goalOf m g .N) []) ≡ u
-          → Met (closed m S) (S .names) (goalOf m g .P) (goalOf m g .N) [] u
-          → EndsSo m g ks (outcomeOf m g (record { fired = n; earlier = e; state = S; stop = none }))
-      go none i u =
-          attack (rw (i, asked)) s (record { goal = l; closure = closed m S; isHC = closed-is m S; meets = u .0 })
-      go (some c) i u = notMet c (rw (i, asked)) s (closed m S) (closed-is m S) u
+  ends-so l ks n e past S (some c) (s, u) = blocked c refl s (closed m S) (closed-is m S) u
+  ends-so l ks n e past S none s = elim (aim-is (closed m S) (S .names) past (aimOf m g)) [
+    | inl (i, k) ↦ attack i s (record { goal = l; closure = closed m S; isHC = closed-is m S; meets = k })
+    | inr k ↦ notMet _ refl s (closed m S) (closed-is m S) k
+  ]
 
-  -- The run's outcome from a state is the one there, if the model has the attack state and the rules.
-  pub run-is-from : g < length (m .goals) → (ks : List ℕ) → ((k : ℕ) → k ∈ ks → k < length (m .rules)) → (S : State)
+  -- The run's outcome from a state is the one there, if the model has the goal and the rules.
+  pub run-is-from : g < length (aims m) → (ks : List ℕ) → ((k : ℕ) → k ∈ ks → k < length (m .rules)) → (S : State)
       → IsOutcomeFrom m g S ks (outcomeOf m g (reach m S ks))
   unfolding outcomeOf
   run-is-from l ks h S =
       let r = reach m S ks in
-      let (p, e, s) = reach-leads m ks h S in
-      record { path = p; ends = ends-so l ks (r .fired) (r .earlier) (r .state) (r .stop) s; rounds = e; held = refl }
+      let (p, e, y, s) = reach-leads m ks h S in
+      let ends = ends-so l ks (r .fired) (r .earlier) (r .past) (r .state) (r .stop) s in
+      record { path = p; ends = ends; rounds = e; past = y; held = refl }

@@ -1,4 +1,5 @@
--- Laws for code that runs: the steps from one of their states on, states below F, and conditions by their index.
+-- Laws for code that runs: the steps from one of their states on, states below F, conditions by their index, and goals
+-- by their number.
 use Prim.Native.Nat.{ℕ, zero, suc, _+_, _-_, _≤_, _<_}
 use native.Mathlib.Nat.{zero-add, add-zero, add-suc, suc-add, add-assoc, add-sub-of-le}
 use native.Mathlib.Numerals.{add-one}
@@ -6,73 +7,86 @@ use native.Mathlib.Omega.{arith}
 use mathlib.Core.Path.{_≡_, refl, sym, _∙_, ap}
 use mathlib.Core.Logic.{inl, inr}
 use mathlib.Core.Bool.{Bool, true, false}
-use mathlib.Core.List.{List, [], _∷_, _++_, map, append-assoc, List·Memᴰ·head, List·Memᴰ·tail}
+use mathlib.Core.List.{List, [], _∷_, _++_, map, append-nil, append-assoc, List·Memᴰ·head, List·Memᴰ·tail}
 use mathlib.Core.Option.{Option, none, some}
 use lib.ListN.{length, getD, drop, drop-of-length-le, length-append, length-map, List·getD-append}
 use lib.Seq.{drop-cons, getD-append-add}
 use Rattle.sets.specs.Sets.{Facts, listed, _∈_}
-use Rattle.meaning.specs.Model.{Rule, Model, Trace, State, ruleOf, start}
+use Rattle.meaning.specs.Past.{Formula, History}
+use Rattle.meaning.specs.Model.{Rule, Goal, Model, Trace, State, ruleOf, aims, aimOf, start}
+use Rattle.meaning.specs.Model.Aim.{state, formula}
 use Rattle.meaning.specs.Rounds.{rounds}
 use Rattle.meaning.specs.Run.{Condition, conditions, find, unmetOf, after}
 use Rattle.meaning.specs.Run.{Reached, stays, onward, reach, outcomeOf, run}
 use Rattle.meaning.specs.Run.Condition.{positive, negative, unused}
 use Rattle.sets.proofs.Laws.{is-false, fails, by-test, listed-is}
-use Rattle.meaning.proofs.Reaching.{afterRule, after-is}
+use Rattle.meaning.proofs.Reaching.{afterRule, after-is, closed}
 
 -- ---- the steps, from one of their states on
 
--- i steps more fire before, from states with n rounds
-unfoldable pub ahead : ℕ → ℕ → Reached → Reached
-ahead i n r = record { fired = i + r .fired; earlier = n + r .earlier; state = r .state; stop = r .stop }
+-- i steps more fire before, from states with n rounds and these closures
+unfoldable pub ahead : ℕ → ℕ → History → Reached → Reached
+ahead i n h r = record {
+  fired = i + r .fired;
+  earlier = n + r .earlier;
+  past = r .past ++ h;
+  state = r .state;
+  stop = r .stop;
+}
 
 -- At the start nothing is ahead.
-pub ahead-none : (r : Reached) → r ≡ ahead 0 0 r
+pub ahead-none : (r : Reached) → r ≡ ahead 0 0 [] r
 unfolding ahead
-ahead-none r = rw (zero-add (r .fired), zero-add (r .earlier))
+ahead-none r = rw (zero-add (r .fired), zero-add (r .earlier), append-nil (r .past))
 
 -- One step more after those ahead is one more ahead.
-ahead-onward : (i n k : ℕ) (r : Reached) → ahead i n (onward k r) ≡ ahead (i + 1) (n + k) r
+ahead-onward : (i n k : ℕ) (h : History) (X : Facts) (r : Reached)
+    → ahead i n h (onward k X r) ≡ ahead (i + 1) (n + k) (X ∷ h) r
 unfolding ahead onward
-ahead-onward i n k r = rw (add-assoc n k (r .earlier), add-one i, suc-add i (r .fired), add-suc i (r .fired))
+ahead-onward i n k h X r =
+    rw (add-assoc n k (r .earlier), add-one i, suc-add i (r .fired), add-suc i (r .fired), append-assoc (r .past))
 
 -- One step more before those ahead is one more ahead.
-pub onward-ahead : (i n k : ℕ) (r : Reached) → onward k (ahead i n r) ≡ ahead (suc i) (k + n) r
+pub onward-ahead : (i n k : ℕ) (h : History) (X : Facts) (r : Reached)
+    → onward k X (ahead i n h r) ≡ ahead (suc i) (k + n) (h ++ X ∷ []) r
 unfolding ahead onward
-onward-ahead i n k r = rw (add-assoc k n (r .earlier), suc-add i (r .fired))
+onward-ahead i n k h X r = rw (add-assoc k n (r .earlier), suc-add i (r .fired), append-assoc (r .past))
 
 -- Where no step fires, those ahead are all.
-ahead-stays : (i n : ℕ) (S : State) (c : Option Condition)
-    → ahead i n (stays S c) ≡ record { fired = i; earlier = n; state = S; stop = c }
+ahead-stays : (i n : ℕ) (h : History) (S : State) (c : Option Condition)
+    → ahead i n h (stays S c) ≡ record { fired = i; earlier = n; past = h; state = S; stop = c }
 unfolding ahead stays
-ahead-stays i n S c = rw (add-zero i, add-zero n)
+ahead-stays i n h S c = rw (add-zero i, add-zero n)
 
 module _ (m : Model) where
   -- A rule with no condition unmet fires.
   pub reach-fires : (S : State) (k : ℕ) (ks : List ℕ) → unmetOf m S (ruleOf m k) ≡ none
-      → reach m S (k ∷ ks) ≡ onward (rounds (m .clauses) (S .facts)) (reach m (afterRule m k S) ks)
+      → reach m S (k ∷ ks) ≡ onward (rounds (m .clauses) (S .facts)) (closed m S) (reach m (afterRule m k S) ks)
   unfolding reach
   reach-fires S k ks e = rw (e, reach)
 
-  module _ (S : State) (ks : List ℕ) (i n : ℕ) where
+  module _ (S : State) (ks : List ℕ) (i n : ℕ) (past : History) where
     -- Where all conditions of step i are met it fires.
     pub step-fires : i < length ks → unmetOf m S (ruleOf m (getD ks i 0)) ≡ none
-        → ahead i n (reach m S (drop i ks))
-        ≡ ahead (i + 1) (n + rounds (m .clauses) (S .facts))
+        → ahead i n past (reach m S (drop i ks))
+        ≡ ahead (i + 1) (n + rounds (m .clauses) (S .facts)) (closed m S ∷ past)
         (reach m (afterRule m (getD ks i 0) S) (drop (i + 1) ks))
     step-fires h e =
         rw (drop-cons ks i 0 h, reach-fires S (getD ks i 0) (drop (suc i) ks) e, ahead-onward i n, add-one i)
 
     -- A condition that is unmet stops the run at step i.
     pub step-stops : i < length ks → {c : Condition} → unmetOf m S (ruleOf m (getD ks i 0)) ≡ some c
-        → ahead i n (reach m S (drop i ks)) ≡ record { fired = i; earlier = n; state = S; stop = some c }
+        → ahead i n past (reach m S (drop i ks))
+        ≡ record { fired = i; earlier = n; past = past; state = S; stop = some c }
     unfolding reach
-    step-stops h {c} e = rw (drop-cons ks i 0 h, e, reach) (ahead-stays i n S (some c))
+    step-stops h {c} e = rw (drop-cons ks i 0 h, e, reach) (ahead-stays i n past S (some c))
 
     -- After the last step the run goes no further.
     pub steps-end : length ks ≤ i
-        → ahead i n (reach m S (drop i ks)) ≡ record { fired = i; earlier = n; state = S; stop = none }
+        → ahead i n past (reach m S (drop i ks))
+        ≡ record { fired = i; earlier = n; past = past; state = S; stop = none }
     unfolding reach
-    steps-end h = rw (drop-of-length-le ks h) (ahead-stays i n S none)
+    steps-end h = rw (drop-of-length-le ks h) (ahead-stays i n past S none)
 
 -- ---- states below F
 
@@ -143,11 +157,11 @@ find-same p q (x ∷ xs) h =
     (λ e. rw (h x (List·Memᴰ·head refl), e, find) (find-same p q xs (λ y m. h y (List·Memᴰ·tail m))))
 
 -- An image stands where its entry does.
-image-at : {B : Type 0} (g : ℕ → B) (xs : List ℕ) (i : ℕ) (d : B) → i < length xs
-    → getD (map g xs) i d ≡ g (getD xs i 0)
-image-at g [] i d h = absurd (omega arith)
-image-at g (x ∷ xs) zero d h = refl
-image-at g (x ∷ xs) (suc i) d h = image-at g xs i d (omega arith)
+image-at : {A B : Type 0} (g : A → B) (xs : List A) (i : ℕ) (d : B) (a : A) → i < length xs
+    → getD (map g xs) i d ≡ g (getD xs i a)
+image-at g [] i d a h = absurd (omega arith)
+image-at g (x ∷ xs) zero d a h = refl
+image-at g (x ∷ xs) (suc i) d a h = image-at g xs i d a (omega arith)
 
 -- What stands after a list stands so much later.
 back-at {ℓ} : {A : Type ℓ} (xs ys : List A) (i : ℕ) (d : A) → length xs ≤ i
@@ -167,7 +181,7 @@ module _ (P N names : List ℕ) where
     unfolding conditions
     positive-at h =
         rw append-assoc
-        (List·getD-append (map positive P) _ d i (rw (length-map P positive) h) ∙ image-at positive P i d h)
+        (List·getD-append (map positive P) _ d i (rw (length-map P positive) h) ∙ image-at positive P i d 0 h)
 
     -- After them come those of N.
     pub negative-at : length P ≤ i → i < length P + length N
@@ -177,7 +191,7 @@ module _ (P N names : List ℕ) where
         let after : length (map positive P) ≤ i = rw (length-map P positive) h in
         rw (append-assoc, back-at (map positive P), length-map P positive)
         (List·getD-append (map negative N) _ d (i - length P) (rw (length-map N negative) (omega arith))
-        ∙ image-at negative N (i - length P) d (omega arith))
+        ∙ image-at negative N (i - length P) d 0 (omega arith))
 
     -- At last come the names.
     pub unused-at : length P + length N ≤ i → i < length P + length N + length names
@@ -188,4 +202,29 @@ module _ (P N names : List ℕ) where
         let size : length before ≡ length P + length N = simp (length-append, length-map) in
         back-at before (map unused names) i d (rw size h)
         ∙ ap (λ j. getD (map unused names) (i - j) d) size
-        ∙ image-at unused names (i - (length P + length N)) d (omega arith)
+        ∙ image-at unused names (i - (length P + length N)) d 0 (omega arith)
+
+-- ---- goals by their number
+
+module _ (m : Model) where
+  -- There are as many goals as attack states and formulas.
+  pub length-aims : length (aims m) ≡ length (m .goals) + length (m .formulas)
+  unfolding aims
+  length-aims = simp (length-append, length-map)
+
+  module _ (g : ℕ) where
+    -- The first ones are the attack states.
+    pub state-at : (d : Goal) → g < length (m .goals) → aimOf m g ≡ state (getD (m .goals) g d)
+    unfolding aimOf
+    state-at d h =
+        List·getD-append (map state (m .goals)) _ _ g (rw (length-map (m .goals) state) h)
+        ∙ image-at state (m .goals) g _ d h
+
+    -- After them come the formulas.
+    pub formula-at : (d : Formula) → length (m .goals) ≤ g → g < length (aims m)
+        → aimOf m g ≡ formula (getD (m .formulas) (g - length (m .goals)) d)
+    unfolding aimOf
+    formula-at d h l =
+        let after : length (map state (m .goals)) ≤ g = rw (length-map (m .goals) state) h in
+        rw (back-at (map state (m .goals)), length-map (m .goals) state)
+        (image-at formula (m .formulas) (g - length (m .goals)) _ d (omega (arith, length-aims)))

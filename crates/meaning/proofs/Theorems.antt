@@ -1,32 +1,38 @@
 -- What demands 2 and 3 promise (specs/Promises), proved: each theorem in one place, the work in the files beside this
 -- one.
-use Prim.Native.Nat.{ℕ, zero, suc, _+_, _≤_, _<_}
+use Prim.Native.Nat.{ℕ, zero, suc, _+_, _-_, _≤_, _<_}
 use native.Mathlib.Numerals.{add-one}
 use native.Mathlib.Omega.{arith}
 use mathlib.Core.Path.{_≡_, refl, sym, _∙_, ap}
 use mathlib.Core.Logic.{_↔_, _⊎_, inl, inr}
-use mathlib.Core.Bool.{Bool, true, false, not, _&&_, _||_}
+use mathlib.Core.Bool.{Bool, false, not, _&&_, _||_, and-true}
 use mathlib.Core.List.{List, [], _∷_, _++_, List·Memᴰ·head, List·Memᴰ·not-nil, Memᴰ·append-right}
 use mathlib.Core.Option.{none, some}
 use lib.Dec.{T, eqb, ltb, ltb→lt, lt→ltb}
-use lib.ListN.{length, getD, take, List·getD-eq-default}
+use lib.ListN.{length, getD, take, drop, length-append, List·getD-eq-default}
 use Rattle.sets.specs.Sets.{Facts, any, every, listed, _∈_}
-use Rattle.meaning.specs.Model.{Clause, Rule, Model, Trace, State, ruleOf, goalOf, start}
+use Rattle.meaning.specs.Past.{Formula, History, truth}
+use Rattle.meaning.specs.Past.Formula.{fact, negation, either, implies, yesterday, once, historically, since}
+use Rattle.meaning.specs.Model.{Clause, Rule, Goal, Model, Trace, State, ruleOf, aims, aimOf, start}
+use Rattle.meaning.specs.Model.Aim.{state, formula}
 use Rattle.meaning.specs.Rounds.{round, rounds, closure, roundNumber, missingHeads}
 use Rattle.meaning.specs.Run.{conditions, find, unmet, unmetOf, after, Ending, Outcome, run, named}
 use Rattle.meaning.specs.Run.Condition.{positive, negative, unused}
-use Rattle.meaning.specs.Published.{HC, Meets, Fresh, Transition, Path, AttackMet, TrueAttack}
+use Rattle.meaning.specs.Published.{HC, Meets, Fresh, Transition, Path, earlier, GoalMet, TrueAttack}
 use Rattle.meaning.specs.Published.Path.{here, step}
 use Rattle.meaning.specs.Promises.{IsRounds, AreMissingHeads, IsRoundNumber, Makes, Nameless, roundsOn, IsOutcome}
+use Rattle.meaning.specs.Promises.{Pastless}
 use Rattle.meaning.specs.Promises.EndsSo.{attack, blocked, notMet}
 use Rattle.meaning.specs.Promises.FirstUnmet.{absent, present, inUse}
 use Rattle.sets.proofs.Laws.{passes, fails, by-test, both, every-in, every-intro, one-number}
 use Rattle.sets.proofs.Laws.{below-or-from, getD-in, listed-is}
 use Rattle.meaning.proofs.Closing
-use Rattle.meaning.proofs.Meeting.{unmet-none, unmet-some, first-absent, first-present, first-used}
+use Rattle.meaning.proofs.Histories
+use Rattle.meaning.proofs.Meeting.{unmet-none, unmet-some, first-absent, first-present, first-used, not-blocked}
 use Rattle.meaning.proofs.Reaching.{afterRule, after-is, unmetOf-is, fires, run-is-from}
-use Rattle.meaning.proofs.Running.{fired-met, fired-after, is-run-from, path-sum, path-rules}
+use Rattle.meaning.proofs.Running.{fired-met, fired-after, is-run-from, path-sum, path-past, path-rules}
 use Rattle.meaning.proofs.Running.{attack-outcome, outcome-attack}
+use Rattle.meaning.proofs.Runs.{length-aims, state-at, formula-at}
 
 -- The closure is HC(S): the least set that holds the state and obeys the clauses.
 pub closure-is-HC : (cs : List Clause) (S : Facts) → HC cs S (closure cs S)
@@ -120,8 +126,8 @@ pub run-is : (m : Model) (t : Trace) → T (named m t) → IsOutcome m t (run m 
 unfolding named run
 run-is m t n =
     let known : ℕ → Bool = λ k. ltb k (length (m .rules)) in
-    let (g, ks) = both (ltb (t .goal) (length (m .goals))) (every known (t .steps)) .0 n in
-    run-is-from m (t .goal) (ltb→lt (t .goal) (length (m .goals)) g) (t .steps)
+    let (g, ks) = both (ltb (t .goal) (length (aims m))) (every known (t .steps)) .0 n in
+    run-is-from m (t .goal) (ltb→lt (t .goal) (length (aims m)) g) (t .steps)
     (λ k i. ltb→lt k (length (m .rules)) (every-in known (t .steps) ks k i)) (start m)
 
 -- The trace's outcome is the run's.
@@ -143,8 +149,8 @@ pub attack-named : {m : Model} {t : Trace} → TrueAttack m t → T (named m t)
 unfolding named
 attack-named {m} {t} a =
     let known : ℕ → Bool = λ k. ltb k (length (m .rules)) in
-    both (ltb (t .goal) (length (m .goals))) (every known (t .steps)) .1 (
-      lt→ltb (t .goal) (length (m .goals)) (a .met .goal),
+    both (ltb (t .goal) (length (aims m))) (every known (t .steps)) .1 (
+      lt→ltb (t .goal) (length (aims m)) (a .met .goal),
       every-intro known (t .steps) (λ k i. lt→ltb k (length (m .rules)) (path-rules (a .path) k i)),
     )
 
@@ -160,6 +166,35 @@ sum-on-path m t n p = sum-of-rounds m t n ∙ path-sum (run-is m t n .path) ∙ 
 -- Of a true attack they are the sum over its states.
 pub sum-of-attack : (m : Model) (t : Trace) (a : TrueAttack m t) → run m t .rounds ≡ roundsOn (a .path)
 sum-of-attack m t a = ap (λ (o : Outcome). o .rounds) (sym (is-run m t (attack-outcome a)))
+
+-- The closures before the run's last state are those on its path.
+pub past-of-run : (m : Model) (t : Trace) (n : T (named m t)) → run m t .past ≡ earlier (run-is m t n .path)
+past-of-run m t n = run-is m t n .past
+
+-- They are those on any path of the run's steps.
+pub past-on-path : (m : Model) (t : Trace) → T (named m t) → {S : State}
+    (p : Path m (start m) (take (run m t .step) (t .steps)) S) → run m t .past ≡ earlier p
+past-on-path m t n p = past-of-run m t n ∙ path-past (run-is m t n .path) ∙ sym (path-past p)
+
+-- On a path there are as many as steps.
+pub past-length : {m : Model} {S S' : State} {ks : List ℕ} (p : Path m S ks S') → length (earlier p) ≡ length ks
+unfolding earlier
+past-length here = refl
+past-length (step {ks = ks} t p) =
+    length-append (earlier p) (t .closure ∷ []) ∙ ap (λ n. n + 1) (past-length p) ∙ add-one (length ks)
+
+-- "Goal numbers run on from the attack states.": there are as many goals as attack states and formulas,
+pub aims-count : (m : Model) → length (aims m) ≡ length (m .goals) + length (m .formulas)
+aims-count = length-aims
+
+-- the first ones are the attack states,
+pub aim-state : (m : Model) (g : ℕ) (d : Goal) → g < length (m .goals) → aimOf m g ≡ state (getD (m .goals) g d)
+aim-state = state-at
+
+-- and after them come the formulas.
+pub aim-formula : (m : Model) (g : ℕ) (d : Formula) → length (m .goals) ≤ g → g < length (aims m)
+    → aimOf m g ≡ formula (getD (m .formulas) (g - length (m .goals)) d)
+aim-formula = formula-at
 
 -- the effect of a rule, where some facts are persistent
 module _ (persistent : List ℕ) (r : Rule) (S : State) (f : ℕ) where
@@ -184,11 +219,7 @@ module _ (persistent : List ℕ) (r : Rule) (S : State) (f : ℕ) where
 pub nothing-persistent : (r : Rule) (S : State) (f : ℕ)
     → after [] r S .facts f ≡ (S .facts f && not (listed (r .P) f) || listed (r .A) f)
 unfolding after listed any
-nothing-persistent r S f = rw (all-of (any (eqb f) (r .P)))
-  where
-    all-of : (p : Bool) → (p && true) ≡ p
-    all-of true = refl
-    all-of false = refl
+nothing-persistent r S f = rw (and-true (any (eqb f) (r .P)))
 
 -- A rule of the model fires exactly if every fact of P and no fact of N is in the closure, and all its names are
 -- unused.
@@ -218,12 +249,12 @@ unfolding unmet conditions find
 no-conditions X used = refl
 
 -- An attack state with both lists empty is met in every state.
-pub always-met : (m : Model) (g : ℕ) → g < length (m .goals) → goalOf m g .P ≡ [] → goalOf m g .N ≡ []
-    → (S : State) → AttackMet m g S
-always-met m g l p n S =
+pub always-met : (m : Model) (g : ℕ) → g < length (aims m) → {G : Goal} → aimOf m g ≡ state G → G .P ≡ [] → G .N ≡ []
+    → (past : History) (S : State) → GoalMet m g past S
+always-met m g l {G} e p n past S =
     let X = closure (m .clauses) (S .facts) in
-    let met = unmet-none X (S .names) (goalOf m g .P) (goalOf m g .N) [] .0 (rw (p, n) (no-conditions X (S .names))) in
-    record { goal = l; closure = X; isHC = closure-is-HC (m .clauses) (S .facts); meets = met .0 }
+    let met = unmet-none X (S .names) (G .P) (G .N) [] .0 (rw (p, n) (no-conditions X (S .names))) in
+    record { goal = l; closure = X; isHC = closure-is-HC (m .clauses) (S .facts); meets = rw e (met .0) }
 
 module _ (X used : Facts) (P N names : List ℕ) where
   -- The first unmet condition is a positive one exactly if its fact is the first of P that is outside the closure.
@@ -338,5 +369,88 @@ module _ {m : Model} (w : Nameless m) where
           let is : c ≡ unused n = cc in
           let (_, before, rest, e, _, _) = first-used X _ _ _ _ (rw is at u) in
           none-made (getD (t .steps) (o .step) 0) n (rw e (Memᴰ·append-right before (List·Memᴰ·head refl)))
-      | notMet c d s X h u ↦ let n : _≡_ {A = ℕ} 0 1 = cc in omega arith
+      | notMet e d s X h u ↦ not-blocked X _ _ u (unused n) (sym d ∙ z)
     ]
+
+-- ---- goals about the past (document 02, wish 11)
+
+-- What is true in one state: "Facts are read in the closure of each state"; not, and, or, implies.
+pub fact-is : (f : ℕ) (X : Facts) (h : History) → T (truth (fact f) (X ∷ h)) ↔ T (X f)
+fact-is = Histories.fact-is
+
+pub negation-is : (p : Formula) (h : History) → T (truth (negation p) h) ↔ (T (truth p h) → ⊥)
+negation-is = Histories.negation-is
+
+module _ (p q : Formula) (h : History) where
+  pub both-is : T (truth (Formula.both p q) h) ↔ (T (truth p h) × T (truth q h))
+  both-is = Histories.both-is p q h
+
+  pub either-is : T (truth (either p q) h) ↔ (T (truth p h) ⊎ T (truth q h))
+  either-is = Histories.either-is p q h
+
+  pub implies-is : T (truth (implies p q) h) ↔ (T (truth p h) → T (truth q h))
+  implies-is = Histories.implies-is p q h
+
+  -- Implies is "not the first, or the second".
+  pub implies-either : truth (implies p q) h ≡ truth (either (negation p) q) h
+  implies-either = Histories.implies-either p q h
+
+module _ (p : Formula) where
+  -- "Yesterday is false in the initial state",
+  pub yesterday-first : (X : Facts) → truth (yesterday p) (X ∷ []) ≡ false
+  yesterday-first = Histories.yesterday-first p
+
+  -- and otherwise its part's truth in the state before.
+  pub yesterday-next : (X Y : Facts) (h : History) → truth (yesterday p) (X ∷ Y ∷ h) ≡ truth p (Y ∷ h)
+  yesterday-next = Histories.yesterday-next p
+
+  -- Once is its part's truth now, or Once in the state before, if there is one.
+  pub once-next : (X : Facts) (h : History) → truth (once p) (X ∷ h) ≡ truth p (X ∷ h) || truth (once p) h
+  once-next = Histories.once-next p
+
+  -- Historically is its part's truth now, and Historically in the state before, if there is one.
+  pub historically-next : (X : Facts) (h : History)
+      → truth (historically p) (X ∷ h) ≡ truth p (X ∷ h) && truth (historically p) h
+  historically-next = Histories.historically-next p
+
+  -- Since is its second part's truth now, or its first part's now and Since in the state before, if there is one.
+  pub since-next : (q : Formula) (X : Facts) (h : History)
+      → truth (since p q) (X ∷ h) ≡ truth q (X ∷ h) || truth p (X ∷ h) && truth (since p q) h
+  since-next = Histories.since-next p
+
+  -- The same by the states spoken of, each as the history was so many states ago. Yesterday: there is a state before,
+  -- and its part was true there.
+  pub yesterday-is : (h : History) → T (truth (yesterday p) h) ↔ ((1 < length h) × T (truth p (drop 1 h)))
+  yesterday-is = Histories.yesterday-is p
+
+  -- Once: its part is or was true in some state.
+  pub once-is : (h : History) → T (truth (once p) h) ↔ ((j : ℕ) × (j < length h) × T (truth p (drop j h)))
+  once-is = Histories.once-is p
+
+  -- Historically: its part is and was true in all states.
+  pub historically-is : (h : History)
+      → T (truth (historically p) h) ↔ ((j : ℕ) → j < length h → T (truth p (drop j h)))
+  historically-is = Histories.historically-is p
+
+  -- "Since needs its second part now or earlier and its first in every state after that"
+  pub since-is : (h : History) (q : Formula) → T (truth (since p q) h)
+      ↔ ((j : ℕ) × (j < length h) × T (truth q (drop j h)) × ((k : ℕ) → k < j → T (truth p (drop k h))))
+  since-is = Histories.since-is p
+
+-- Historically is not Once not.
+pub historically-once : (p : Formula) (h : History)
+    → truth (historically p) h ≡ truth (negation (once (negation p))) h
+historically-once = Histories.historically-once
+
+-- Once is Since with a first part that is true in all states,
+pub once-since : (p q : Formula) (h : History) → ((j : ℕ) → j < length h → T (truth p (drop j h)))
+    → truth (once q) h ≡ truth (since p q) h
+once-since = Histories.once-since
+
+-- as "p or not p" is.
+pub always-true : (p : Formula) (h : History) → T (truth (either p (negation p)) h)
+always-true = Histories.always-true
+
+-- A formula without Yesterday, Once, Historically and Since depends on the last state alone.
+pub last-alone : (p : Formula) → Pastless p → (X : Facts) (h h' : History) → truth p (X ∷ h) ≡ truth p (X ∷ h')
+last-alone = Histories.last-alone

@@ -1,3 +1,4 @@
+pub mod Past
 pub mod Model
 pub mod Rounds
 pub mod Run

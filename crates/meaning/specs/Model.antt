@@ -1,9 +1,10 @@
 -- What a model, a trace and a state are, as lists and sets of numbers
 -- (document 01, "Closure, step, goal" and "File layouts").
 use Prim.Native.Nat.{ℕ}
-use mathlib.Core.List.{List, []}
+use mathlib.Core.List.{List, [], _++_, map}
 use lib.ListN.{getD}
 use Rattle.sets.specs.Sets.{Facts, listed}
+use Rattle.meaning.specs.Past.{Formula}
 
 -- "A clause is its head and then the body facts"
 pub record Clause : Type 0 where
@@ -24,8 +25,8 @@ pub record Goal : Type 0 where
   pub N : List ℕ
 
 -- "Model sections, in order": the fact count F, initial facts, clauses, rules, attack states; with "the persistent
--- facts" (document 02, wish 2), which a model of version 1 has none of, and "names in use at the start" (wish 9), which
--- one of version 1 or 2 has none of
+-- facts" (document 02, wish 2), which a model of version 1 has none of, "names in use at the start" (wish 9), which one
+-- of version 1 or 2 has none of, and "a last section of at most 64 formulas" (wish 11), which only one of version 4 has
 pub record Model : Type 0 where
   pub F : ℕ
   pub initial : List ℕ
@@ -34,19 +35,30 @@ pub record Model : Type 0 where
   pub clauses : List Clause
   pub rules : List Rule
   pub goals : List Goal
+  pub formulas : List Formula
 
 -- "an attack state number and then rule numbers"
 pub record Trace : Type 0 where
   pub goal : ℕ
   pub steps : List ℕ
 
--- "Records are numbered from 0.": the rule and the attack state of a number; one with empty lists where the model
--- lacks it
+-- "Records are numbered from 0.": the rule of a number; one with empty lists where the model lacks it
 unfoldable pub ruleOf : Model → ℕ → Rule
 ruleOf m k = getD (m .rules) k (record { P = []; N = []; A = []; names = [] })
 
-unfoldable pub goalOf : Model → ℕ → Goal
-goalOf m g = getD (m .goals) g (record { P = []; N = [] })
+-- What a trace can be about: an attack state, or a formula (document 02, wish 11).
+pub data Aim : Type 0 where
+  state : Goal → Aim
+  formula : Formula → Aim
+
+-- "Goal numbers run on from the attack states.": all of them in their order, and that of a number; an attack state with
+-- empty lists where the model lacks it
+unfoldable pub aims : Model → List Aim
+aims m = map state (m .goals) ++ map formula (m .formulas)
+
+unfoldable pub aimOf : Model → ℕ → Aim
+unfolding aims
+aimOf m g = getD (aims m) g (state (record { P = []; N = [] }))
 
 -- "A state is a set of facts below F"; "The state now carries a set of used names" (document 02, wish 9)
 pub record State : Type 0 where

@@ -2,15 +2,20 @@
 -- proofs/Theorems.antt proves each of them.
 use Prim.Native.Nat.{ℕ, _+_, _<_}
 use mathlib.Core.Path.{_≡_}
+use mathlib.Core.Bool.{true}
 use mathlib.Core.List.{List, [], _∷_, _++_, List·Nodup}
 use lib.Dec.{T}
 use lib.ListN.{length, getD, take}
 use Rattle.sets.specs.Sets.{Facts, size, _∈_}
-use Rattle.meaning.specs.Model.{Clause, Rule, Model, Trace, State, ruleOf, goalOf, start}
+use Rattle.meaning.specs.Past.{Formula, History, truth}
+use Rattle.meaning.specs.Past.Formula.{fact, negation, both, either, implies, yesterday, once, historically}
+use Rattle.meaning.specs.Past.Formula.{since}
+use Rattle.meaning.specs.Model.{Clause, Rule, Goal, Model, Trace, Aim, State, ruleOf, aimOf, start}
+use Rattle.meaning.specs.Model.Aim.{state, formula}
 use Rattle.meaning.specs.Rounds.{round, rounds, closure}
 use Rattle.meaning.specs.Run.{Condition, Ending, Outcome}
 use Rattle.meaning.specs.Run.Condition.{positive, negative, unused}
-use Rattle.meaning.specs.Published.{HC, Meets, Fresh, Path, AttackMet}
+use Rattle.meaning.specs.Published.{HC, Meets, Fresh, Path, earlier, GoalMet}
 use Rattle.meaning.specs.Published.Path.{here, step}
 
 -- n is the number of rounds: "the first round that equals the next one", and no round after it adds a fact
@@ -61,16 +66,22 @@ unfolding rounds
 roundsOn {m} {S} here = rounds (m .clauses) (S .facts)
 roundsOn {m} {S} (step t p) = rounds (m .clauses) (S .facts) + roundsOn p
 
--- how a run of the steps ks towards the attack state g can end in the last state that it reached: accepted, blocked
--- or not met
+-- What is asked of the last state, with the closure X and those before, isn't met, and the ending says what is named: a
+-- condition of the attack state, or "otherwise that record as the condition named" (document 02, wish 11), the formula.
+pub data GoalUnmet (X used : Facts) (past : History) : Aim → Ending → Type 0 where
+  lacks : {G : Goal} {c : Condition} → FirstUnmet X used (G .P) (G .N) [] c
+      → GoalUnmet X used past (state G) (Ending.notMet c)
+  stillTrue : {p : Formula} → truth p (X ∷ past) ≡ true → GoalUnmet X used past (formula p) Ending.upheld
+
+-- how a run of the steps ks towards the goal g can end in the last state that it reached: accepted, blocked or not met
 pub data EndsSo (m : Model) (g : ℕ) (ks : List ℕ) (o : Outcome) : Type 0 where
-  attack : o .ending ≡ Ending.attack → o .step ≡ length ks → AttackMet m g (o .state) → EndsSo m g ks o
+  attack : o .ending ≡ Ending.attack → o .step ≡ length ks → GoalMet m g (o .past) (o .state) → EndsSo m g ks o
   blocked : (c : Condition) → o .ending ≡ Ending.blocked c → o .step < length ks
       → (X : Facts) → HC (m .clauses) (o .state .facts) X
       → FirstUnmetOf X (o .state) (ruleOf m (getD ks (o .step) 0)) c → EndsSo m g ks o
-  notMet : (c : Condition) → o .ending ≡ Ending.notMet c → o .step ≡ length ks
+  notMet : (e : Ending) → o .ending ≡ e → o .step ≡ length ks
       → (X : Facts) → HC (m .clauses) (o .state .facts) X
-      → FirstUnmet X (o .state .names) (goalOf m g .P) (goalOf m g .N) [] c → EndsSo m g ks o
+      → GoalUnmet X (o .state .names) (o .past) (aimOf m g) e → EndsSo m g ks o
 
 -- o is the outcome of the run from S, in document 003's terms: the steps before the one named are transitions to the
 -- last state reached, and there it ends
@@ -78,8 +89,23 @@ pub record IsOutcomeFrom (m : Model) (g : ℕ) (S : State) (ks : List ℕ) (o : 
   pub path : Path m S (take (o .step) ks) (o .state)
   pub ends : EndsSo m g ks o
   pub rounds : o .rounds ≡ roundsOn path
+  pub past : o .past ≡ earlier path
   pub held : o .held ≡ size (o .state .facts) (m .F)
 
 -- o is the outcome of the trace on the model
 abbrev pub IsOutcome : Model → Trace → Outcome → Type 0
 IsOutcome m t o = IsOutcomeFrom m (t .goal) (start m) (t .steps) o
+
+-- ---- goals about the past (document 02, wish 11)
+
+-- the formula has none of Yesterday, Once, Historically and Since
+unfoldable pub Pastless : Formula → Type 0
+Pastless (fact f) = Unit
+Pastless (negation p) = Pastless p
+Pastless (both p q) = Pastless p × Pastless q
+Pastless (either p q) = Pastless p × Pastless q
+Pastless (implies p q) = Pastless p × Pastless q
+Pastless (yesterday p) = ⊥
+Pastless (once p) = ⊥
+Pastless (historically p) = ⊥
+Pastless (since p q) = ⊥

@@ -1,12 +1,16 @@
 -- Document 003's own notions (section 2.2), ground, as document 01 takes them: HC(S), the transition S ⇒ S', a path,
--- an attack state met. Nothing here speaks of rounds.
+-- a goal met. Nothing here speaks of rounds.
 use Prim.Native.Nat.{ℕ, _<_}
+use mathlib.Core.Path.{_≡_}
 use mathlib.Core.Logic.{_⊎_, _↔_}
-use mathlib.Core.List.{List, [], _∷_}
+use mathlib.Core.Bool.{false}
+use mathlib.Core.List.{List, [], _∷_, _++_}
 use lib.Dec.{T}
 use lib.ListN.{length}
 use Rattle.sets.specs.Sets.{Facts, _∈_}
-use Rattle.meaning.specs.Model.{Clause, Rule, Model, Trace, State, ruleOf, goalOf, start}
+use Rattle.meaning.specs.Past.{History, truth}
+use Rattle.meaning.specs.Model.{Clause, Rule, Model, Trace, Aim, State, ruleOf, aims, aimOf, start}
+use Rattle.meaning.specs.Model.Aim.{state, formula}
 
 -- X holds S and obeys every clause: "P ∈ S' if Ĥ ∧ S' ⊨ P"
 pub record Holding (cs : List Clause) (S X : Facts) : Type 0 where
@@ -47,15 +51,27 @@ pub data Path (m : Model) : State → List ℕ → State → Type 0 where
   here : {S : State} → Path m S [] S
   step : {k : ℕ} {ks : List ℕ} {S S' S'' : State} → Transition m k S S' → Path m S' ks S'' → Path m S (k ∷ ks) S''
 
--- the model's attack state g is met in S
-pub record AttackMet (m : Model) (g : ℕ) (S : State) : Type 0 where
-  pub goal : g < length (m .goals)
+-- the closures of the states on a path before its last one, the latest first
+unfoldable pub earlier : {m : Model} {S S' : State} {ks : List ℕ} → Path m S ks S' → History
+earlier here = []
+earlier (step t p) = earlier p ++ t .closure ∷ []
+
+-- what a trace is about is met, by the closure of the last state and those before: "Demand 2 reads a false formula as
+-- an attack state met" (document 02, wish 11)
+abbrev pub AimMet : Facts → History → Aim → Type 0
+AimMet X past (state G) = Meets X (G .P) (G .N)
+AimMet X past (formula p) = truth p (X ∷ past) ≡ false
+
+-- the model's goal g is met in S, after states with these closures
+pub record GoalMet (m : Model) (g : ℕ) (past : History) (S : State) : Type 0 where
+  pub goal : g < length (aims m)
   pub closure : Facts
   pub isHC : HC (m .clauses) (S .facts) closure
-  pub meets : Meets closure (goalOf m g .P) (goalOf m g .N)
+  pub meets : AimMet closure past (aimOf m g)
 
--- demand 2 (docs/PROMISES.md): every step is a transition, and the last state's closure meets the named attack state
+-- demand 2 (docs/PROMISES.md): every step is a transition, and the last state's closure, with those before, meets the
+-- goal named
 pub record TrueAttack (m : Model) (t : Trace) : Type 0 where
   pub last : State
   pub path : Path m (start m) (t .steps) last
-  pub met : AttackMet m (t .goal) last
+  pub met : GoalMet m (t .goal) (earlier path) last

@@ -1,13 +1,15 @@
 -- A run: conditions and the first unmet one, the steps up to the last state reached, and what is asked of that state
 -- (document 01, "Closure, step, goal" and "The verdict also has").
 use Prim.Native.Nat.{ℕ, zero, suc, _+_}
-use mathlib.Core.Bool.{Bool, true, false, not, _&&_, _||_}
+use mathlib.Core.Bool.{Bool, true, false, not, _&&_, _||_, cond}
 use mathlib.Core.List.{List, [], _∷_, _++_, map}
 use mathlib.Core.Option.{Option, none, some}
 use lib.Dec.{ltb}
 use lib.ListN.{length}
 use Rattle.sets.specs.Sets.{Facts, every, listed, size}
-use Rattle.meaning.specs.Model.{Rule, Model, Trace, State, ruleOf, goalOf, start}
+use Rattle.meaning.specs.Past.{History, truth}
+use Rattle.meaning.specs.Model.{Rule, Model, Trace, Aim, State, ruleOf, aims, aimOf, start}
+use Rattle.meaning.specs.Model.Aim.{state, formula}
 use Rattle.meaning.specs.Rounds.{rounds, closure}
 
 -- ---- conditions
@@ -56,21 +58,28 @@ after persistent r S = record {
   names = λ n. S .names n || listed (r .names) n;
 }
 
--- Where some steps lead: how many of them fire, the rounds of all states before the last one reached, that state, and
--- the first unmet condition of the step that can't fire, if there is one.
+-- Where some steps lead: how many of them fire, the rounds and the closures of all states before the last one reached
+-- (the latest closure first), that state, and the first unmet condition of the step that can't fire, if there is one.
 pub record Reached : Type 0 where
   pub fired : ℕ
   pub earlier : ℕ
+  pub past : History
   pub state : State
   pub stop : Option Condition
 
 -- no step fires from this state
 unfoldable pub stays : State → Option Condition → Reached
-stays S c = record { fired = zero; earlier = zero; state = S; stop = c }
+stays S c = record { fired = zero; earlier = zero; past = []; state = S; stop = c }
 
--- one step more fires before, from a state with so many rounds
-unfoldable pub onward : ℕ → Reached → Reached
-onward n r = record { fired = suc (r .fired); earlier = n + r .earlier; state = r .state; stop = r .stop }
+-- one step more fires before, from a state with so many rounds and this closure
+unfoldable pub onward : ℕ → Facts → Reached → Reached
+onward n X r = record {
+  fired = suc (r .fired);
+  earlier = n + r .earlier;
+  past = r .past ++ X ∷ [];
+  state = r .state;
+  stop = r .stop;
+}
 
 -- the steps from a state on, until one can't fire
 unfoldable pub reach : Model → State → List ℕ → Reached
@@ -78,40 +87,48 @@ unfolding unmetOf ruleOf stays onward after
 reach m S [] = stays S none
 reach m S (k ∷ ks) =
     elim (unmetOf m S (ruleOf m k)) [
-      | none ↦ onward (rounds (m .clauses) (S .facts)) (reach m (after (m .persistent) (ruleOf m k) S) ks)
+      | none ↦
+          onward (rounds (m .clauses) (S .facts)) (closure (m .clauses) (S .facts))
+          (reach m (after (m .persistent) (ruleOf m k) S) ks)
       | some c ↦ stays S (some c)
     ]
 
 -- ---- the end
 
--- How a run ends: the attack state is met; a step can't fire for a condition; or the attack state has one that isn't
--- met.
+-- How a run ends: the goal is met; a step can't fire for a condition; the attack state has one that isn't met; or the
+-- formula is true, so that no condition is named.
 pub data Ending : Type 0 where
   attack : Ending
   blocked : Condition → Ending
   notMet : Condition → Ending
+  upheld : Ending
 
--- what is asked of the last state: an attack state "is met exactly if all of P and none of N are in the closure of the
--- last state"
-unfoldable pub asked : Model → ℕ → State → Ending
-unfolding unmet conditions closure goalOf
-asked m g S =
-    elim (unmet (closure (m .clauses) (S .facts)) (S .names) (conditions (goalOf m g .P) (goalOf m g .N) [])) [
-      | none ↦ attack
-      | some c ↦ notMet c
-    ]
+-- what is asked of the last state, by its closure, its names and the closures before: an attack state "is met exactly
+-- if all of P and none of N are in the closure of the last state"; "ATTACK exactly if the formula is false in the last
+-- state" (document 02, wish 11)
+unfoldable pub askedOf : Aim → Facts → Facts → History → Ending
+unfolding unmet conditions truth
+askedOf (state G) X used past =
+    elim (unmet X used (conditions (G .P) (G .N) [])) [ none ↦ attack | some c ↦ notMet c ]
+askedOf (formula p) X used past = cond (truth p (X ∷ past)) upheld attack
+
+unfoldable pub asked : Model → ℕ → History → State → Ending
+unfolding askedOf aimOf closure
+asked m g past S = askedOf (aimOf m g) (closure (m .clauses) (S .facts)) (S .names) past
 
 -- "Then 10 at the first blocked step, else 11 or 0."
 unfoldable pub ending : Model → ℕ → Reached → Ending
 unfolding asked
-ending m g r = elim (r .stop) [ some c ↦ blocked c | none ↦ asked m g (r .state) ]
+ending m g r = elim (r .stop) [ some c ↦ blocked c | none ↦ asked m g (r .past) (r .state) ]
 
--- What a run comes to: its ending, the verdict's step, rounds and held, and the last state reached.
+-- What a run comes to: its ending, the verdict's step, rounds and held, the closures of the states before the last one
+-- reached (the latest first), and that state.
 pub record Outcome : Type 0 where
   pub ending : Ending
   pub step : ℕ
   pub rounds : ℕ
   pub held : ℕ
+  pub past : History
   pub state : State
 
 -- "the sum of the round counts of all states reached" and "facts in the last state reached (closure not counted)"
@@ -122,6 +139,7 @@ outcomeOf m g r = record {
   step = r .fired;
   rounds = r .earlier + rounds (m .clauses) (r .state .facts);
   held = size (r .state .facts) (m .F);
+  past = r .past;
   state = r .state;
 }
 
@@ -130,7 +148,7 @@ unfoldable pub run : Model → Trace → Outcome
 unfolding outcomeOf reach start
 run m t = outcomeOf m (t .goal) (reach m (start m) (t .steps))
 
--- the trace names no attack state or rule that the model lacks
+-- the trace names no goal or rule that the model lacks
 unfoldable pub named : Model → Trace → Bool
-unfolding every
-named m t = ltb (t .goal) (length (m .goals)) && every (λ k. ltb k (length (m .rules))) (t .steps)
+unfolding every aims
+named m t = ltb (t .goal) (length (aims m)) && every (λ k. ltb k (length (m .rules))) (t .steps)

@@ -1,16 +1,17 @@
 -- Laws on the numbers in bytes: how large they are, how many there are, and the next one at a place.
 use Prim.Native.Nat.{ℕ, zero, suc, _+_, _*_, _/_, _%_, _≤_, _<_}
 use mathlib.Core.Path.{_≡_, refl, _∙_, sym}
-use mathlib.Core.Bool.{true, false, true≢false, false≢true}
+use mathlib.Core.Bool.{true, false, _&&_, and-true, true≢false, false≢true}
 use mathlib.Core.List.{List, [], _∷_}
 use native.Mathlib.Nat.{not-suc-le-zero, le-of-suc-le-suc}
 use native.Mathlib.Omega.{arith}
-use lib.Dec.{eqb}
+use lib.Dec.{leb, ltb, eqb}
 use lib.ListN.{length, getD, drop}
 use lib.Seq.{drop-drop, getD-drop}
-use borrow.Author.Tests.{eq-eqb}
+use borrow.Author.Tests.{eq-eqb, lt-ltb}
 use mir.Syntax.{w8}
 use mir.Val.{Fits}
+use Rattle.sets.specs.Sets.{any}
 use Rattle.sets.proofs.Laws.{by-test}
 use Rattle.records.specs.Words.{word, words, odd}
 
@@ -19,6 +20,20 @@ pub word-small : (bytes : List ℕ) (at : ℕ) → ((i : ℕ) → Fits w8 (getD 
 unfolding word
 word-small bytes at byte =
     rw (getD-drop at bytes 0 0, getD-drop at bytes 1 0) (omega (arith, byte (at + 0), byte (at + 1)))
+
+-- so an end of 65,536 leaves none out
+pub words-end : (limit : ℕ) (bytes : List ℕ) → ((i : ℕ) → Fits w8 (getD bytes i 0))
+    → any (λ x. leb limit x && ltb x 65536) (words bytes) ≡ any (leb limit) (words bytes)
+unfolding words any
+words-end limit [] byte = refl
+words-end limit (a ∷ []) byte = refl
+words-end limit (a ∷ b ∷ rest) byte =
+    let small : a * 256 + b < 65536 = omega (arith, byte 0, byte 1) in
+    rw (
+      lt-ltb (a * 256 + b) 65536 small,
+      and-true (leb limit (a * 256 + b)),
+      words-end limit rest (λ i. byte (suc (suc i))),
+    )
 
 -- two bytes and what follows them
 pub words-two : (bytes : List ℕ) → 2 ≤ length bytes → words bytes ≡ word bytes ∷ words (drop 2 bytes)

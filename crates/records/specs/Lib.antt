@@ -1,4 +1,6 @@
 pub mod Words
+pub mod Codes
 pub mod Records
 pub mod Answers
 pub mod Contracts
+pub mod Above

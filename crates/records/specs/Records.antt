@@ -8,9 +8,10 @@ use lib.Dec.{leb, ltb, eqb}
 use lib.ListN.{length, take, drop, getD}
 use Rattle.sets.specs.Sets.{any}
 use Rattle.records.specs.Words.{word, words, odd, ascending}
+use Rattle.records.specs.Codes.{isFormula}
 use Rattle.records.specs.declared.Fault.{Fault}
 use Rattle.records.specs.declared.Kind.{Kind}
-use Rattle.records.specs.declared.Kind.the-variants.{Clause, Rule, Maker, Goal}
+use Rattle.records.specs.declared.Kind.the-variants.{Clause, Rule, Maker, Goal, Formula}
 use Rattle.records.specs.declared.Row.{Row}
 
 infixr 25 _orElse_
@@ -76,14 +77,16 @@ rows Clause F = factRow 1 F ∷ factRow 16 F ∷ []
 rows Rule F = factRow 32 F ∷ factRow 32 F ∷ factRow 32 F ∷ []
 rows Maker F = factRow 32 F ∷ factRow 32 F ∷ factRow 32 F ∷ nameRow ∷ []
 rows Goal F = factRow 32 F ∷ factRow 32 F ∷ []
+rows Formula F = []
 
--- how many lists with a count a record of the kind has: a clause's have none
+-- how many lists with a count a record of the kind has: a clause's have none, and a formula has no lists
 unfoldable pub listCount : Kind → ℕ
 unfolding rows
 listCount Clause = 0
 listCount Rule = length (rows Rule 0)
 listCount Maker = length (rows Maker 0)
 listCount Goal = length (rows Goal 0)
+listCount Formula = 0
 
 -- "A list is a 2-byte count and that many facts. Lists fill the record exactly.": the k lists that these bytes are, if
 -- they are
@@ -103,13 +106,14 @@ unfolding word words odd
 cutClause bytes =
     cond (odd bytes || ltb (length bytes) 2) none (some ((word bytes ∷ []) ∷ words (drop 2 bytes) ∷ []))
 
--- the lists that the bytes after a record's length are, if they are
+-- the lists that the bytes after a record's length are, if they are; a formula's are codes, in twos, and no lists
 unfoldable pub cut : Kind → List ℕ → Option (List (List ℕ))
-unfolding cutClause cutLists listCount
+unfolding cutClause cutLists listCount odd
 cut Clause = cutClause
 cut Rule = cutLists (listCount Rule)
 cut Maker = cutLists (listCount Maker)
 cut Goal = cutLists (listCount Goal)
+cut Formula = λ bytes. cond (odd bytes) none (some [])
 
 -- the lists of a record, if its length fits and they fill it
 unfoldable pub listsOf : Kind → List ℕ → Option (List (List ℕ))
@@ -123,12 +127,13 @@ listOf K r j = getD (Option·getD (listsOf K r) []) j []
 
 -- ---- judging
 
--- "Clauses 4,096 .. Rules 2,048, attack states 64"
+-- "Clauses 4,096 .. Rules 2,048, attack states 64"; "at most 64 formulas" (document 02, wish 11)
 unfoldable pub most : Kind → ℕ
 most Clause = 4096
 most Rule = 2048
 most Maker = 2048
 most Goal = 64
+most Formula = 64
 
 -- a list longer than its row allows
 abbrev pub overLong : Row → List ℕ → Bool
@@ -150,9 +155,9 @@ anyList fails (row ∷ others) (l ∷ lists) = fails row l || anyList fails othe
 -- "Within a record 4 comes before 5, 5 before 6, 6 before 7; a record beyond the section's bound is judged for 4 and
 -- then is 5."; "a name over 1,023 is 12 BADNAME, right after FACT within a record" (document 02, wish 9): record n of
 -- its section, in a model of F facts
-unfoldable pub judge : Kind → ℕ → ℕ → List ℕ → Option ℕ
+unfoldable pub judgeLists : Kind → ℕ → ℕ → List ℕ → Option ℕ
 unfolding listsOf given _orElse_ most rows anyList any ascending
-judge K F n r =
+judgeLists K F n r =
     elim (listsOf K r) [
       | none ↦ some 4
       | some lists ↦
@@ -161,6 +166,30 @@ judge K F n r =
           orElse given (anyList wrongName (rows K F) lists) 12
           orElse given (any (λ l. not (ascending l)) lists) 7
     ]
+
+-- "A code is 2 bytes" (document 02, wish 11): the codes behind a record's length
+unfoldable pub codesIn : List ℕ → List ℕ
+unfolding words
+codesIn r = words (drop 2 r)
+
+-- "an odd record is SHAPE, a formula or code too many COUNT, a fact code of F or more FACT; last within a record, 17
+-- FORMULA" (document 02, wish 11): "at most 64 formulas, one record each, at most 255 codes", "below 32,768 a fact"
+unfoldable pub judgeFormula : ℕ → ℕ → List ℕ → Option ℕ
+unfolding whole odd given _orElse_ most codesIn any
+judgeFormula F n r =
+    given (not (whole r) || odd (drop 2 r)) 4
+    orElse given (leb (most Formula) n || ltb 255 (length (codesIn r))) 5
+    orElse given (any (λ c. leb F c && ltb c 32768) (codesIn r)) 6
+    orElse given (not (isFormula (codesIn r))) 17
+
+-- record n of its section, by its kind
+unfoldable pub judge : Kind → ℕ → ℕ → List ℕ → Option ℕ
+unfolding judgeLists judgeFormula
+judge Clause = judgeLists Clause
+judge Rule = judgeLists Rule
+judge Maker = judgeLists Maker
+judge Goal = judgeLists Goal
+judge Formula = judgeFormula
 
 -- "The initial facts, each clause body and each list are strictly ascending.": bare numbers, names or facts, which fill
 -- the bytes and are below a limit, however many

@@ -1,14 +1,16 @@
 // Reads records out of a lent section: where each starts, what is wrong with it, and the lists in it.
 ghost use mathlib.Core.Path.{_≡_};
 ghost use Prim.Native.Nat.{_+_, _<_, _≤_};
-ghost use mathlib.Core.Bool.{not};
-ghost use mathlib.Core.List.{_∷_};
-ghost use lib.Dec.{leb};
+ghost use mathlib.Core.Bool.{Bool, true, not, _&&_};
+ghost use mathlib.Core.List.{List, _∷_};
+ghost use lib.Dec.{leb, ltb};
 ghost use lib.ListN.{length, take, drop};
 ghost use Rattle.sets.specs.Sets.{any};
 ghost use Rattle.records.specs.Words.{word, words, ascending};
+ghost use Rattle.records.specs.Codes.{overTwo, isFormula};
 ghost use Rattle.records.specs.Records.{recordOf, records, placeOf, rows, listCount, cutLists, cutClause};
-ghost use Rattle.records.specs.Records.{bare, judge, firstFault, factRow};
+ghost use Rattle.records.specs.Records.{whole, bare, judgeLists, judgeFormula, judge, firstFault, factRow};
+ghost use Rattle.records.specs.Above.{bits, bitsOf, ended, after};
 ghost use Rattle.records.specs.Answers.{code, found};
 ghost use Rattle.records.specs.Contracts.{marked, markedBy, picked, pickedOf, before};
 
@@ -18,6 +20,7 @@ pub enum Kind {
     Rule,
     Maker,
     Goal,
+    Formula,
 }
 
 // A fault: document 01's number, and the bytes at fault by their place and length.
@@ -89,7 +92,7 @@ pub fn record_at(section: &[u8], at: usize) -> &[u8]
     }
 }
 
-// How many lists with a count a record of the kind has: a clause's have none.
+// How many lists with a count a record of the kind has: a clause's have none, and a formula has no lists.
 fn list_count(kind: Kind) -> usize
     ensures { λ r. ⌜ r ≡ listCount kind ⌝ }
 {
@@ -98,10 +101,11 @@ fn list_count(kind: Kind) -> usize
         Kind::Rule => 3,
         Kind::Maker => 4,
         Kind::Goal => 2,
+        Kind::Formula => 0,
     }
 }
 
-// What list j of a record is allowed. The caller knows that records of the kind have it.
+// What list j of a record is allowed. The caller knows that records of the kind have it; a formula has none.
 fn row_of(kind: Kind, j: usize, facts: usize) -> Row
     requires { ⌜ j < length (rows kind facts) ⌝ }
     ensures { λ r. ⌜ drop j (rows kind facts) ≡ r ∷ drop (j + 1) (rows kind facts) ⌝ }
@@ -118,6 +122,7 @@ fn row_of(kind: Kind, j: usize, facts: usize) -> Row
         Kind::Rule => 32,
         Kind::Maker => 32,
         Kind::Goal => 32,
+        Kind::Formula => 32,
     };
     Row {
         longest,
@@ -126,13 +131,14 @@ fn row_of(kind: Kind, j: usize, facts: usize) -> Row
     }
 }
 
-// Whether a number of the list is the limit or more.
-fn reaches(list: &[u8], limit: usize) -> bool
-    ensures { λ r. ⌜ r ≡ any (leb limit) (words (now (list .entry))) ⌝ }
+// Whether a number of the list is the limit or more, and below an end.
+fn reaches(list: &[u8], limit: usize, end: usize) -> bool
+    ensures { λ r. ⌜ r ≡ any (λ x. leb limit x && ltb x end) (words (now (list .entry))) ⌝ }
 {
     let mut at = 0;
     while 2 <= list.len() - at {
-        if limit <= word_at(list, at) {
+        let x = word_at(list, at);
+        if (limit <= x) & (x < end) {
             return true;
         }
         at += 2;
@@ -171,7 +177,7 @@ fn look(list: &[u8], limit: usize) -> Seen
         let f = word_at(list, at);
         if f <= last {
             return Seen {
-                large: reaches(list, limit),
+                large: reaches(list, limit, 65536),
                 broken: true,
             };
         }
@@ -288,10 +294,96 @@ fn clause_number(body: &[u8], facts: usize, marks: Marks) -> u8
     pick(marks)
 }
 
+// What is above a place of a formula is one number, so that no stack is needed: under a leading 1 a bit for each
+// operator, the nearest last, 1 where its second formula is still to come; 0 where the whole formula has ended.
+
+// What is above where a formula has ended. The caller knows that the whole had not.
+fn end(above: u64) -> u64
+    requires { ⌜ 0 < above ⌝ }
+    ensures { λ r. ⌜ ((l : List Bool) → above ≡ bits l → r ≡ bitsOf (ended l)) ⌝ }
+{
+    let mut above = above;
+    while above % 2 == 0 {
+        above /= 2;
+    }
+    above - 1
+}
+
+// Whether an operator is over two formulas: and, or, implies, Since.
+fn over_two(code: usize) -> bool
+    ensures { λ r. ⌜ r ≡ overTwo code ⌝ }
+{
+    (code == 32769) | (code == 32770) | (code == 32771) | (code == 32775)
+}
+
+// What is above after a code. The caller has seen that a formula may start with it.
+fn pass(above: u64, code: usize) -> u64
+    requires { ⌜ (0 < above) × (above < 4294967296) ⌝ }
+    ensures { λ r. ⌜ ((l : List Bool) → above ≡ bits l → r ≡ bitsOf (after code l)) ⌝ }
+{
+    if code < 32768 {
+        return end(above);
+    }
+    if over_two(code) {
+        above * 2 + 1
+    } else {
+        above * 2
+    }
+}
+
+// Whether the codes in these bytes are one formula, at most 32 deep: at most 31 operators are above a code.
+fn is_formula(codes: &[u8]) -> bool
+    ensures { λ r. ⌜ r ≡ isFormula (words (now (codes .entry))) ⌝ }
+{
+    let mut above = 1;
+    let mut at = 0;
+    while 2 <= codes.len() - at {
+        let code = word_at(codes, at);
+        if (above == 0) | (4294967296 <= above) | (32775 < code) {
+            return false;
+        }
+        above = pass(above, code);
+        at += 2;
+    }
+    above == 0
+}
+
+// Whether a record's length fits it.
+fn is_whole(bytes: &[u8]) -> bool
+    ensures { λ r. ⌜ r ≡ whole (now (bytes .entry)) ⌝ }
+{
+    if bytes.len() < 2 {
+        return false;
+    }
+    bytes.len() == 2 + word_at(bytes, 0)
+}
+
+// The number for record n of its section, a formula: 4 to 6 or 17, or 0 where nothing is wrong with it.
+fn formula_number(formula: &[u8], n: usize, facts: usize) -> u8
+    ensures { λ r. ⌜ r ≡ code (judgeFormula facts n (now (formula .entry))) ⌝ }
+{
+    if !is_whole(formula) {
+        return 4;
+    }
+    let codes = &formula[2..];
+    if codes.len() % 2 == 1 {
+        return 4;
+    }
+    let marks = beyond(Kind::Formula, n);
+    if marks.count | (255 < codes.len() / 2) {
+        return 5;
+    }
+    if reaches(codes, facts, 32768) {
+        return 6;
+    }
+    if is_formula(codes) { 0 } else { 17 }
+}
+
 // The number for record n of its section, which these bytes start with: 4 to 7 or 12, or 0 where nothing is wrong with
-// it.
+// it. The caller has seen that it is no formula.
 fn record_number(rest: &[u8], kind: Kind, n: usize, facts: usize) -> u8
-    ensures { λ r. ⌜ r ≡ code (judge kind facts n (recordOf (now (rest .entry)))) ⌝ }
+    requires { ⌜ (kind ≡ Kind.Formula → ⊥) ⌝ }
+    ensures { λ r. ⌜ r ≡ code (judgeLists kind facts n (recordOf (now (rest .entry)))) ⌝ }
 {
     if rest.len() < 2 {
         return 4;
@@ -317,6 +409,7 @@ fn beyond(kind: Kind, n: usize) -> Marks
         Kind::Rule => 2048,
         Kind::Maker => 2048,
         Kind::Goal => 64,
+        Kind::Formula => 64,
     };
     Marks {
         count: most <= n,
@@ -326,10 +419,12 @@ fn beyond(kind: Kind, n: usize) -> Marks
     }
 }
 
-// The first fault of a section of records, or how many records it has.
-pub fn first_fault(section: &[u8], kind: Kind, facts: usize) -> Found
+// The first fault of a section of records with lists, or how many records it has. The caller has seen that they are no
+// formulas.
+fn lists_fault(section: &[u8], kind: Kind, facts: usize) -> Found
+    requires { ⌜ (kind ≡ Kind.Formula → ⊥) ⌝ }
     ensures { λ r. let bytes = now (section .entry) in
-        ⌜ r ≡ found (firstFault (judge kind facts) bytes) (length (records bytes)) ⌝ }
+        ⌜ r ≡ found (firstFault (judgeLists kind facts) bytes) (length (records bytes)) ⌝ }
 {
     let mut at = 0;
     let mut n = 0;
@@ -348,6 +443,40 @@ pub fn first_fault(section: &[u8], kind: Kind, facts: usize) -> Found
         n += 1;
     }
     Found::Fine(n)
+}
+
+// The same of a section of formulas. In one loop for both short clauses take a sixth longer.
+fn formulas_fault(section: &[u8], facts: usize) -> Found
+    ensures { λ r. let bytes = now (section .entry) in
+        ⌜ r ≡ found (firstFault (judgeFormula facts) bytes) (length (records bytes)) ⌝ }
+{
+    let mut at = 0;
+    let mut n = 0;
+    while at < section.len() {
+        let formula = record_at(section, at);
+        let number = formula_number(formula, n, facts);
+        if number != 0 {
+            return Found::Fault(Fault {
+                number,
+                start: at,
+                size: formula.len(),
+            });
+        }
+        at += formula.len();
+        n += 1;
+    }
+    Found::Fine(n)
+}
+
+// The first fault of a section of records, or how many records it has.
+pub fn first_fault(section: &[u8], kind: Kind, facts: usize) -> Found
+    ensures { λ r. let bytes = now (section .entry) in
+        ⌜ r ≡ found (firstFault (judge kind facts) bytes) (length (records bytes)) ⌝ }
+{
+    if let Kind::Formula = kind {
+        return formulas_fault(section, facts);
+    }
+    lists_fault(section, kind, facts)
 }
 
 // Where record n of the section starts; the section's end where it has no such record.

@@ -21,7 +21,8 @@ use Rattle.records.proofs.Places.{records-sum}
 use Rattle.sections.specs.Sections.{long, endAt, fits, payload, restFault, moved, inSection, allOf, sizes}
 use Rattle.sections.specs.Sections.{ruleKind, reader}
 use Rattle.sections.specs.declared.Role.{Role}
-use Rattle.sections.specs.declared.Role.the-variants.{Sizes, Initial, Persistent, Names, Clauses, Rules, Goals}
+use Rattle.sections.specs.declared.Role.the-variants.{Sizes, Initial, Persistent, Names, Clauses, Rules}
+use Rattle.sections.specs.declared.Role.the-variants.{Goals, Formulas}
 use Rattle.sections.specs.Answers.{passed}
 use Rattle.sections.specs.declared.Passed.{Passed}
 use Rattle.sections.proofs.Fits.{fits-within, payload-part}
@@ -125,6 +126,7 @@ reader-within version Names F bytes f e = all-within (bare true 1024 bytes) byte
 reader-within version Clauses F bytes f e = fault-within (judge kind.Clause F) bytes f e
 reader-within version Rules F bytes f e = fault-within (judge (ruleKind version) F) bytes f e
 reader-within version Goals F bytes f e = fault-within (judge kind.Goal F) bytes f e
+reader-within version Formulas F bytes f e = fault-within (judge kind.Formula F) bytes f e
 
 -- ---- where a section ends
 

@@ -12,7 +12,8 @@ use Rattle.records.specs.declared.Fault.{Fault}
 use Rattle.records.specs.declared.Kind.{Kind}
 use Rattle.records.specs.declared.Kind.the-variants as kind
 use Rattle.sections.specs.declared.Role.{Role}
-use Rattle.sections.specs.declared.Role.the-variants.{Sizes, Initial, Persistent, Names, Clauses, Rules, Goals}
+use Rattle.sections.specs.declared.Role.the-variants.{Sizes, Initial, Persistent, Names, Clauses, Rules}
+use Rattle.sections.specs.declared.Role.the-variants.{Goals, Formulas}
 
 -- "All numbers are big-endian .. a 4-byte length": the number that the first four bytes are
 unfoldable pub long : List ℕ → ℕ
@@ -78,7 +79,7 @@ ruleKind version = cond (leb 3 version) kind.Maker kind.Rule
 
 -- "4 to 7 for the model": what a section of each role is judged for, in a model of a version and of F facts; the
 -- persistent facts are "judged like the initial facts" (document 02, wish 2), the names like these but for "a name over
--- 1,023" (wish 9)
+-- 1,023" (wish 9); formulas, "one record each" (wish 11), have numbers of their own
 unfoldable pub reader : ℕ → Role → ℕ → List ℕ → Option Fault
 unfolding allOf sizes bare firstFault judge ruleKind
 reader version Sizes F bytes = allOf (sizes bytes) bytes
@@ -88,6 +89,7 @@ reader version Names F bytes = allOf (bare true 1024 bytes) bytes
 reader version Clauses F bytes = firstFault (judge kind.Clause F) bytes
 reader version Rules F bytes = firstFault (judge (ruleKind version) F) bytes
 reader version Goals F bytes = firstFault (judge kind.Goal F) bytes
+reader version Formulas F bytes = firstFault (judge kind.Formula F) bytes
 
 -- "Records are numbered from 0.": how many a section of the role has; sizes and bare numbers "count as one record each"
 -- and have none
@@ -100,6 +102,7 @@ entries Names bytes = 0
 entries Clauses bytes = length (records bytes)
 entries Rules bytes = length (records bytes)
 entries Goals bytes = length (records bytes)
+entries Formulas bytes = length (records bytes)
 
 -- ---- a file's size and version
 

@@ -26,6 +26,7 @@ pub enum Role {
     Clauses,
     Rules,
     Goals,
+    Formulas,
 }
 
 // What one section is: fine, with its end and how many records it has, or at fault.
@@ -141,6 +142,7 @@ fn read(bytes: &[u8], version: u8, role: Role, facts: usize) -> Found
         Role::Clauses => Kind::Clause,
         Role::Rules => rule_kind(version),
         Role::Goals => Kind::Goal,
+        Role::Formulas => Kind::Formula,
     };
     records::first_fault(bytes, kind, facts)
 }

@@ -16,18 +16,31 @@ next n h other = omega arith
 
 -- A number that is none of those with a name has none.
 unnamed : (k : ℕ) → (k ≡ 0 → ⊥) → (k ≡ 1 → ⊥) → (k ≡ 2 → ⊥) → (k ≡ 3 → ⊥) → (k ≡ 4 → ⊥) → (k ≡ 5 → ⊥) → (k ≡ 6 → ⊥)
-    → (k ≡ 7 → ⊥) → (k ≡ 9 → ⊥) → (k ≡ 10 → ⊥) → (k ≡ 11 → ⊥) → (k ≡ 12 → ⊥) → (k ≡ 13 → ⊥) → nameOf k ≡ []
+    → (k ≡ 7 → ⊥) → (k ≡ 9 → ⊥) → (k ≡ 10 → ⊥) → (k ≡ 11 → ⊥) → (k ≡ 12 → ⊥) → (k ≡ 13 → ⊥) → (k ≡ 17 → ⊥)
+    → nameOf k ≡ []
 unfolding ascii names nameOf
-unnamed k a b c d e f g h i j l m n = go (eqb k 8) refl
+unnamed k a b c d e f g h i j l m n o = at-8 (eqb k 8) refl
   where
     from-8 : 8 ≤ k
     from-8 = next 7 (next 6 (next 5 (next 4 (next 3 (next 2 (next 1 (next 0 zero-le a) b) c) d) e) f) g) h
 
-    go : (is : Bool) → eqb k 8 ≡ is → nameOf k ≡ []
-    go true q = rw (eqb-true k 8 q)
-    go false q =
-        List·getD-eq-default names []
-        (next 13 (next 12 (next 11 (next 10 (next 9 (next 8 from-8 (eqb-false k 8 q)) i) j) l) m) n)
+    at-16 : 16 ≤ k → (is : Bool) → eqb k 16 ≡ is → nameOf k ≡ []
+    at-16 from true q = rw (eqb-true k 16 q)
+    at-16 from false q = List·getD-eq-default names [] (next 17 (next 16 from (eqb-false k 16 q)) o)
+
+    at-15 : 15 ≤ k → (is : Bool) → eqb k 15 ≡ is → nameOf k ≡ []
+    at-15 from true q = rw (eqb-true k 15 q)
+    at-15 from false q = at-16 (next 15 from (eqb-false k 15 q)) (eqb k 16) refl
+
+    at-14 : 14 ≤ k → (is : Bool) → eqb k 14 ≡ is → nameOf k ≡ []
+    at-14 from true q = rw (eqb-true k 14 q)
+    at-14 from false q = at-15 (next 14 from (eqb-false k 14 q)) (eqb k 15) refl
+
+    at-8 : (is : Bool) → eqb k 8 ≡ is → nameOf k ≡ []
+    at-8 true q = rw (eqb-true k 8 q)
+    at-8 false q =
+        at-14 (next 13 (next 12 (next 11 (next 10 (next 9 (next 8 from-8 (eqb-false k 8 q)) i) j) l) m) n)
+        (eqb k 14) refl
 
 returns : tie.Need-returns
 unfolding ascii names nameOf
@@ -82,9 +95,13 @@ unfolding ascii names nameOf
 returns-13 c = record { eight = refl; fits = omega arith; is = rw (c .before .before .match .keys13) }
 
 returns-14 : tie.Need-returns-14
-returns-14 c =
+unfolding ascii names nameOf
+returns-14 c = record { eight = refl; fits = omega arith; is = rw (c .before .before .match .keys14) }
+
+returns-15 : tie.Need-returns-15
+returns-15 c =
     let last = c .before .before .match .rest in
-    let no = last .0 .0 in
+    let no = last .0 .0 .0 in
     let more = no .0 .0 .0 .0 .0 in
     record {
       eight = refl;
@@ -93,7 +110,7 @@ returns-14 c =
           sym
           (unnamed _ (more .0 .0 .0 .0 .0 .1) (more .0 .0 .0 .0 .1) (more .0 .0 .0 .1) (more .0 .0 .1) (more .0 .1)
           (more .1) (no .0 .0 .0 .0 .1) (no .0 .0 .0 .1) (no .0 .0 .1) (no .0 .1) (no .1)
-          (last .0 .1) (last .1));
+          (last .0 .0 .1) (last .0 .1) (last .1));
     }
 
 pub name-of-spec : {M : Type 1} → statement M
@@ -113,4 +130,5 @@ name-of-spec =
     returns-11
     returns-12
     returns-13
-    returns-14)
+    returns-14
+    returns-15)

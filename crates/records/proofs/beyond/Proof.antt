@@ -17,13 +17,17 @@ enum-told-3 c = search needs
 enum-told-4 : tie.Need-enum-told-4
 enum-told-4 c = search needs
 
+enum-told-5 : tie.Need-enum-told-5
+enum-told-5 c = search needs
+
 returns : tie.Need-returns
 unfolding before
 returns c =
     ⊎-elim (λ w. rw (w .2, w .1 .given .1))
     (⊎-elim (λ w. rw (w .2, w .1 .given .1))
-    (⊎-elim (λ w. rw (w .2, w .1 .given .1)) (λ w. rw (w .2, w .1 .given .1))))
+    (⊎-elim (λ w. rw (w .2, w .1 .given .1))
+    (⊎-elim (λ w. rw (w .2, w .1 .given .1)) (λ w. rw (w .2, w .1 .given .1)))))
     (c .match .came)
 
 pub beyond-spec : {M : Type 1} → statement M
-beyond-spec = tie.close (tie.spec enum-told enum-told-2 enum-told-3 enum-told-4 returns)
+beyond-spec = tie.close (tie.spec enum-told enum-told-2 enum-told-3 enum-told-4 enum-told-5 returns)

@@ -16,6 +16,9 @@ enum-told-3 c = search needs
 enum-told-4 : tie.Need-enum-told-4
 enum-told-4 c = search needs
 
+enum-told-5 : tie.Need-enum-told-5
+enum-told-5 c = search needs
+
 returns : tie.Need-returns
 unfolding listCount
 returns c = search needs
@@ -32,6 +35,21 @@ returns-4 : tie.Need-returns-4
 unfolding listCount
 returns-4 c = search needs
 
+returns-5 : tie.Need-returns-5
+unfolding listCount
+returns-5 c = search needs
+
 pub list-count-spec : {M : Type 1} → statement M
 list-count-spec =
-    tie.close (tie.spec enum-told enum-told-2 enum-told-3 enum-told-4 returns returns-2 returns-3 returns-4)
+    tie.close
+    (tie.spec
+    enum-told
+    enum-told-2
+    enum-told-3
+    enum-told-4
+    enum-told-5
+    returns
+    returns-2
+    returns-3
+    returns-4
+    returns-5)

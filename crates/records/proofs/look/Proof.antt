@@ -12,7 +12,7 @@ use borrow.Author.Tests.{lt-ltb, le-ltb}
 use denote.Ref.{now}
 use Rattle.sets.specs.Sets.{any}
 use Rattle.records.specs.Words.{words, ascending}
-use Rattle.records.proofs.Words.{words-two, words-at, words-none}
+use Rattle.records.proofs.Words.{words-end, words-two, words-at, words-none}
 use Rattle.records.proofs.Lists.{largest-last}
 use Rattle.records.proofs.look.Statement.{statement}
 use Rattle.records.proofs.look.Tie as tie
@@ -69,7 +69,11 @@ unfolding ascending
 broken c = c .before .before .before .loop .inv .2 ∙ rw (next (c .before), le-ltb _ _ (c .if2 .taken))
 
 returns-2 : tie.Need-returns-2 Inv-loop μ-loop
-returns-2 c = (c .reaches .ensures, ap not (sym (broken (c .before))))
+returns-2 c =
+    let known = c .before .before .before .before .before .before .before in
+    let args = known .before .args in
+    let all = words-end (args .limit) (now (args .list)) (known .shared-slice-known .given) in
+    (c .reaches .ensures ∙ all, ap not (sym (broken (c .before))))
 
 add-at : tie.Need-add-at Inv-loop μ-loop
 add-at c = omega arith

@@ -1,11 +1,11 @@
 -- `records::reaches` meets its contract. The loop's invariant: the answer is that for the numbers from `at` on.
 use Prim.Native.Nat.{ℕ, _+_, _-_, _≤_, zero-le}
 use mathlib.Core.Path.{_≡_, refl, sym, _∙_}
+use mathlib.Core.Bool.{Bool, _&&_}
 use mathlib.Core.List.{List, [], _∷_}
 use native.Mathlib.Omega.{arith}
-use lib.Dec.{leb}
+use lib.Dec.{leb, ltb}
 use lib.ListN.{length, drop, length-drop}
-use borrow.Author.Tests.{le-leb, lt-leb}
 use denote.Ref.{now}
 use Rattle.sets.specs.Sets.{any}
 use Rattle.records.specs.Words.{words}
@@ -14,11 +14,12 @@ use Rattle.records.proofs.reaches.Statement.{statement}
 use Rattle.records.proofs.reaches.Tie as tie
 
 abbrev Inv-loop : tie.InvT-loop
-Inv-loop list limit at₀ at =
-    (at ≤ length list) × (any (leb limit) (words list) ≡ any (leb limit) (words (drop at list)))
+Inv-loop list limit end at₀ at =
+    let reached : ℕ → Bool = λ x. leb limit x && ltb x end in
+    (at ≤ length list) × (any reached (words list) ≡ any reached (words (drop at list)))
 
 abbrev μ-loop : tie.MeasureT-loop
-μ-loop list limit at₀ at = length list - at
+μ-loop list limit end at₀ at = length list - at
 
 loop-holds : tie.Need-loop-holds Inv-loop μ-loop
 loop-holds c = (zero-le, refl)
@@ -42,7 +43,7 @@ module _ (c : tie.After-word-at Inv-loop μ-loop) where
 
 returns : tie.Need-returns Inv-loop μ-loop
 unfolding any
-returns c = sym (c .before .before .before .loop .inv .1 ∙ rw (next (c .before), le-leb _ _ (c .if1 .taken)))
+returns c = sym (c .before .before .before .loop .inv .1 ∙ rw (next (c .before), c .if1 .taken))
 
 add-at : tie.Need-add-at Inv-loop μ-loop
 add-at c = omega arith
@@ -53,7 +54,7 @@ loop-less c = omega arith
 loop-again : tie.Need-loop-again Inv-loop μ-loop
 unfolding any
 loop-again c =
-    (omega arith, c .before .before .before .loop .inv .1 ∙ rw (next (c .before), lt-leb _ _ (c .if1 .left)))
+    (omega arith, c .before .before .before .loop .inv .1 ∙ rw (next (c .before), c .if1 .left))
 
 returns-2 : tie.Need-returns-2 Inv-loop μ-loop
 unfolding any

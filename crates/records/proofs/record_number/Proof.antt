@@ -7,21 +7,21 @@ use native.Mathlib.Omega.{arith}
 use lib.ListN.{length, take, drop}
 use denote.Ref.{now}
 use Rattle.records.specs.Words.{word}
-use Rattle.records.specs.Records.{recordOf, judge, rows, listCount, cutLists, cutClause, cut}
+use Rattle.records.specs.Records.{recordOf, judgeLists, rows, listCount, cutLists, cutClause, cut}
 use Rattle.records.specs.Answers.{code}
 use Rattle.records.specs.Contracts.{pickedOf}
 use Rattle.records.specs.declared.Kind.{Kind}
 use Rattle.records.specs.declared.Kind.the-variants.{Clause}
-use Rattle.records.proofs.Judging.{judge-is, first-cut, first-none, uncounted, counted-cut}
+use Rattle.records.proofs.Judging.{lists-are, first-cut, first-none, uncounted, counted-cut}
 use borrow.Author.Needs.{needs}
 use Rattle.records.proofs.record_number.Statement.{statement}
 use Rattle.records.proofs.record_number.Tie as tie
 
 -- a record whose length does not fit
 without : (K : Kind) (F n : ℕ) (bytes : List ℕ) → length bytes < 2 + word bytes
-    → code (judge K F n (recordOf bytes)) ≡ 4
+    → code (judgeLists K F n (recordOf bytes)) ≡ 4
 unfolding code pickedOf
-without K F n bytes h = rw (judge-is, first-none K bytes h)
+without K F n bytes h = rw (lists-are, first-none K bytes h)
 
 returns : tie.Need-returns
 returns c =
@@ -71,20 +71,21 @@ fitted : (c : tie.After-beyond) (K : Kind) (into : List ℕ → Option (List (Li
     args .kind ≡ K
     → cut K ≡ into
     → code (pickedOf (rows K (args .facts)) (c .beyond .result) (into body))
-    ≡ code (judge (args .kind) (args .facts) (args .n) (recordOf (now (args .rest))))
+    ≡ code (judgeLists (args .kind) (args .facts) (args .n) (recordOf (now (args .rest))))
 fitted c K into kind cuts =
     let got = c .before .before .before in
     let rest = now (got .before .before .before .args .rest) in
     let size : got .word-at .result + 2 - 2 ≡ word rest = omega (arith, got .word-at .ensures) in
-    rw (size, c .beyond .ensures, kind, judge-is, first-cut K rest (omega arith), cuts)
+    rw (size, c .beyond .ensures, kind, lists-are, first-cut K rest (omega arith), cuts)
 
 returns-3 : tie.Need-returns-3
 unfolding cut
 returns-3 c =
     let counted = c .before .before in
+    let other = counted .before .before .before .before .before .before .before .pre in
     c .clause-number .ensures
     ∙ fitted (counted .before) Clause cutClause
-    (uncounted _ (sym (counted .list-count .ensures) ∙ c .before .if3 .taken)) refl
+    (uncounted _ other (sym (counted .list-count .ensures) ∙ c .before .if3 .taken)) refl
 
 returns-4 : tie.Need-returns-4
 returns-4 c =

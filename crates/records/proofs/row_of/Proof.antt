@@ -24,6 +24,9 @@ enum-told-3 c = search needs
 enum-told-4 : tie.Need-enum-told-4
 enum-told-4 c = search needs
 
+enum-told-5 : tie.Need-enum-told-5
+enum-told-5 c = search needs
+
 returns-2 : tie.Need-returns-2
 unfolding rows
 returns-2 c = rw (c .before .enum-told .given .1, c .if2 .taken)
@@ -52,6 +55,11 @@ returns-6 c =
     let kind = c .enum-told4 .given .1 in
     rw kind (alike _ [] 2 _ (rw kind at (c .before .before .before .pre)))
 
+-- a formula has no list
+returns-7 : tie.Need-returns-7
+unfolding rows
+returns-7 c = absurd (omega (arith, rw (c .enum-told5 .given .1) at (c .before .before .before .pre)))
+
 pub row-of-spec : {M : Type 1} → statement M
 row-of-spec =
     tie.close
@@ -61,8 +69,10 @@ row-of-spec =
     enum-told-2
     enum-told-3
     enum-told-4
+    enum-told-5
     returns-2
     returns-3
     returns-4
     returns-5
-    returns-6)
+    returns-6
+    returns-7)

@@ -47,6 +47,9 @@ rule-kind-requires c κs = search needs
 enum-told-7 : tie.Need-enum-told-7
 enum-told-7 c = search needs
 
+enum-told-8 : tie.Need-enum-told-8
+enum-told-8 c = search needs
+
 first-fault-requires : tie.Need-first-fault-requires
 first-fault-requires c κs = search needs
 
@@ -78,7 +81,8 @@ unfolding reader entries
 returns-5 c =
     c .first-fault .ensures
     ∙ ⊎-elim (λ w. rw (w .2, w .1 .given .1))
-    (⊎-elim (λ w. rw (w .3, w .2 .ensures, w .1 .given .1)) (λ w. rw (w .2, w .1 .given .1)))
+    (⊎-elim (λ w. rw (w .3, w .2 .ensures, w .1 .given .1))
+    (⊎-elim (λ w. rw (w .2, w .1 .given .1)) (λ w. rw (w .2, w .1 .given .1))))
     (c .before .match .came)
 
 pub read-spec : {M : Type 1} → statement M
@@ -102,5 +106,6 @@ read-spec =
     enum-told-6
     rule-kind-requires
     enum-told-7
+    enum-told-8
     first-fault-requires
     returns-5)

@@ -1,139 +1,87 @@
--- `running::ask` meets its contract: the conditions at hand are those of the trace's attack state.
-use Prim.Native.Nat.{ℕ, _<_}
-use mathlib.Core.Path.{_≡_, sym, ap, _∙_, subst}
-use mathlib.Core.List.{List, []}
+-- `running::ask` meets its contract: without codes the goal is an attack state, with some a formula.
+use mathlib.Core.Path.{_≡_, sym, ap, _∙_}
+use mathlib.Core.Bool.{Bool, cond}
+use mathlib.Core.List.{[]}
 use native.Mathlib.Omega.{arith}
 use denote.Ref.{now}
-use lib.Dec.{lit<}
-use lib.ListN.{length, getD}
-use Rattle.meaning.specs.Model.{Model, Goal, goalOf}
-use Rattle.meaning.specs.Run.{conditions, unmet}
-use Rattle.records.specs.Words.{word, words}
-use Rattle.records.specs.Records.{records}
-use Rattle.records.specs.declared.Kind.the-variants as kind
-use Rattle.records.specs.Records.{listCount}
-use Rattle.lists.specs.Lists.{Cut, ListBytes}
-use Rattle.sections.specs.declared.Role.the-variants.{Goals}
-use Rattle.files.specs.Files.{modelOf, traceOf, sectionOf}
-use Rattle.files.specs.Known.{Known}
-use Rattle.files.proofs.Lists.{goal-there, goal-record, goal-known, goal-P, goal-N}
-use Rattle.files.proofs.Traces.{pair-shape, pair-fits, pair-entries, pair-goal-known, goal-entry}
+use lib.ListN.{length}
+use Prim.Native.Nat.{_<_, _≤_}
+use Rattle.meaning.specs.Run.Ending.{attack, upheld}
+use Rattle.files.proofs.Formulas.{codes-state}
 use Rattle.closing.specs.Closing.{numbered}
 use Rattle.checking.specs.Verdict.{namesIn}
-use Rattle.checking.specs.Running.{unmetIn, endingOf}
-use Rattle.checking.proofs.Ends.{asked-met, asked-unmet}
+use Rattle.checking.specs.Running.{endingOf, aimed, Asked}
+use Rattle.checking.proofs.Aiming.{asked-alone, asked-formula}
 use borrow.Author.Needs.{needs}
 use Rattle.checking.proofs.running.ask.Statement.{statement}
 use Rattle.checking.proofs.running.ask.Tie as tie
 
-module _ (c : tie.After-word-at) where
-  abbrev start : tie.Start
-  start = c .before .before .before .before .before .before
+-- there are no codes
+module _ (c : tie.Then1) where
+  abbrev without : tie.Start
+  without = c .before .before .before .before .before .before .before
 
-  abbrev M : Model
-  M = modelOf (now (start .args .model))
+  none-there : length (now (without .args .codes)) ≤ 0
+  none-there = omega (arith, c .if1 .taken)
 
-  abbrev goal : ℕ
-  goal = traceOf (now (start .args .trace)) .goal
+-- there are some
+module _ (c : tie.Else1) where
+  abbrev with-codes : tie.Start
+  with-codes = c .before .before .before .before .before .before .before
 
-  number-is : c .word-at .result ≡ goal
-  number-is = c .word-at .ensures ∙ ap word (c .before .entries .ensures) ∙ sym (goal-entry _)
+  some-there : 0 < length (now (with-codes .args .codes))
+  some-there = omega (arith, c .if1 .left)
 
-  known-goal : c .word-at .result < length (M .goals)
-  known-goal = subst (λ g. g < length (M .goals)) (sym number-is) (pair-goal-known _ _ (start .pre .0))
+-- what the formula's value says, whatever history is kept
+module _ (c : tie.After-slice-known2) where
+  abbrev advanced : tie.After-advance
+  advanced = c .before .before
 
-module _ (c : tie.After-record) where
-  cut-of : Cut kind.Goal (now (c .record .result))
-  cut-of = rw (c .record .ensures) (goal-record _ (pair-shape _ _ (start (c .before) .pre .0)) (known-goal (c .before)))
+  abbrev asking : tie.Start
+  asking = with-codes (advanced .before .before)
 
-  -- a list of the record, as a list of the model's attack state
-  list-is : (j : ℕ) {bytes : List ℕ} → ListBytes kind.Goal (now (c .record .result)) j bytes
-      → ListBytes kind.Goal
-      (getD (records (sectionOf (now (start (c .before) .args .model)) Goals)) (c .before .word-at .result) []) j bytes
-  list-is j {bytes} l = subst (λ (r : List ℕ). ListBytes kind.Goal r j bytes) (c .record .ensures) l
+  asked-is : {answer : Bool} → advanced .advance .result ≡ answer
+      → Asked (aimed (now (asking .args .model)) (now (asking .args .trace))) (numbered (now (asking .args .table)))
+      (namesIn (now (asking .args .names))) (now (asking .args .kept)) (cond answer upheld attack)
+  asked-is told h k =
+      ap (λ (b : Bool). cond b upheld attack) (sym told)
+      ∙ sym (asked-formula _ _ (asking .pre .2) (some-there (advanced .before .before)) _ h k (advanced .advance .ensures))
 
-  known-list : (j : ℕ) {bytes : List ℕ} → j < 3 → ListBytes kind.Goal (now (c .record .result)) j bytes → Known bytes
-  known-list j {bytes} few l =
-      goal-known _ (pair-shape _ _ (start (c .before) .pre .0)) (known-goal (c .before)) j few bytes (list-is j l)
-
--- the first unmet condition of the attack state, as the table shows
-unmet-is : (c : tie.After-first-unmet)
-    → let w = c .before .before .before .before .before in
-    unmetIn (c .first-unmet .result)
-    ≡ unmet (numbered (now (start w .args .table))) (namesIn (now (start w .args .names)))
-    (conditions (goalOf (M w) (goal w) .P) (goalOf (M w) (goal w) .N) [])
-unfolding words
-unmet-is c =
-    let l = c .before .before in
-    let r = l .before .before in
-    let at : (which : Goal → List ℕ)
-    → which (goalOf (M (r .before)) (r .before .word-at .result))
-    ≡ which (goalOf (M (r .before)) (goal (r .before))) =
-    λ which. ap (λ g. which (goalOf (M (r .before)) g)) (number-is (r .before)) in
-    let P-is = goal-P _ _ (list-is r 0 (l .before .list-of .ensures)) ∙ at (λ g. g .P) in
-    let N-is = goal-N _ _ (list-is r 1 (l .list-of2 .ensures)) ∙ at (λ g. g .N) in
-    rw (P-is, N-is) at (c .first-unmet .ensures)
-
-entries-requires : tie.Need-entries-requires
-entries-requires c κs = let s = c .before .before .before .before in pair-fits _ _ (s .pre .0)
-
-word-at-requires : tie.Need-word-at-requires
-word-at-requires c κs =
-    let s = c .before .before .before .before .before in
-    omega (arith, ap length (c .entries .ensures), pair-entries _ _ (s .pre .0))
-
-record-requires : tie.Need-record-requires
-record-requires c κs = (pair-shape _ _ (start c .pre .0), goal-there _ (known-goal c))
-
-list-of-requires : tie.Need-list-of-requires
-unfolding listCount
-list-of-requires c κs = (cut-of c, lit< tt)
-
-list-of-requires-2 : tie.Need-list-of-requires-2
-unfolding listCount
-list-of-requires-2 c κs = (cut-of (c .before), lit< tt)
-
-slice-aggregate-first-unmet : tie.Need-slice-aggregate-first-unmet
-slice-aggregate-first-unmet c = search needs
-
-first-unmet-requires : tie.Need-first-unmet-requires
-first-unmet-requires c κs =
-    let l = c .before in (
-      known-list (l .before .before) 0 (lit< tt) (l .before .list-of .ensures),
-      known-list (l .before .before) 1 (lit< tt) (l .list-of2 .ensures),
-      start (l .before .before .before) .pre .1,
-    )
-
-enum-told : tie.Need-enum-told
-enum-told c = search needs
-
-enum-known-c : tie.Need-enum-known-c
-enum-known-c c = search needs
+ask-state-requires : tie.Need-ask-state-requires
+ask-state-requires c κs =
+    let s = without c in
+    (s .pre .0, s .pre .1, codes-state (s .pre .2) (none-there c))
 
 returns : tie.Need-returns
-unfolding endingOf unmetIn
 returns c =
-    let f = c .before .before in
-    asked-met _ _ _ _ (sym (unmet-is f) ∙ ap unmetIn (c .enum-told .given .1))
+    let s = without (c .before) in
+    λ h k. c .ask-state .ensures ∙ asked-alone _ _ (s .pre .2) (none-there (c .before)) _ _ [] h
+
+advance-requires : tie.Need-advance-requires
+advance-requires c κs = search needs
+
+same-length : tie.Need-same-length
+same-length c = search needs
 
 returns-2 : tie.Need-returns-2
-unfolding endingOf unmetIn
-returns-2 c =
-    let f = c .before .before .before in
-    asked-unmet _ _ _ _ (sym (unmet-is f) ∙ ap unmetIn (c .before .c .given .1))
+unfolding endingOf
+returns-2 c = asked-is (c .before) (c .if2 .taken)
+
+same-length-2 : tie.Need-same-length-2
+same-length-2 c = search needs
+
+returns-3 : tie.Need-returns-3
+unfolding endingOf
+returns-3 c = asked-is (c .before) (c .if2 .left)
 
 pub ask-spec : {M : Type 1} → statement M
 ask-spec =
     tie.close
     (tie.spec
-    entries-requires
-    word-at-requires
-    record-requires
-    list-of-requires
-    list-of-requires-2
-    slice-aggregate-first-unmet
-    first-unmet-requires
-    enum-told
-    enum-known-c
+    ask-state-requires
     returns
-    returns-2)
+    advance-requires
+    same-length
+    returns-2
+    same-length-2
+    returns-3)

@@ -1,16 +1,20 @@
 -- `running::run` meets its contract: the initial state, the steps, the end, and the verdict of it.
-use Prim.Native.Nat.{ℕ}
+use Prim.Native.Nat.{ℕ, _<_}
 use mathlib.Core.Path.{sym, ap, _∙_, subst, fun-ext}
 use mathlib.Core.List.{List}
 use native.Mathlib.Omega.{arith}
+use denote.Ref.{now}
+use lib.ListN.{length}
 use Rattle.sets.specs.Sets.{listed}
 use Rattle.meaning.specs.Model as meant
 use Rattle.records.specs.Words.{words}
 use Rattle.facts.proofs.Laws.{kept-trans}
-use Rattle.files.specs.Files.{modelOf}
-use Rattle.files.specs.Known.{Known}
+use Rattle.files.specs.Files.{modelOf, traceOf}
+use Rattle.files.specs.Known.{Known, GoalCodes}
 use Rattle.files.proofs.Lists.{initial-known}
-use Rattle.files.proofs.Traces.{pair-shape}
+use Rattle.files.proofs.Traces.{pair-shape, pair-fits, pair-entries, pair-goal-known}
+use Rattle.checking.specs.Running.{aimed}
+use Rattle.checking.proofs.Aiming.{keeps-zeros}
 use Rattle.checking.proofs.Ends.{steps-here, left-from, held-is}
 use borrow.Author.Needs.{needs}
 use Rattle.checking.proofs.running.run.Statement.{statement}
@@ -23,10 +27,10 @@ abbrev section-of : tie.After-begin → tie.After-section
 section-of c = c .before .before .before .before
 
 abbrev begun : tie.After-search → tie.After-begin
-begun c = c .before .before .before .before .before .before .before .before
+begun c = c .before .before .before .before .before .before .before .before .before .before .before
 
 abbrev found-of : tie.After-finish → tie.After-search
-found-of c = c .before .before .before .before .before .before .before .before .before .before
+found-of c = c .before .before .before .before .before .before .before .before .before .before .before .before
 
 section-requires : tie.Need-section-requires
 section-requires c κs = pair-shape _ _ (c .before .before .before .before .before .pre .fine)
@@ -44,10 +48,35 @@ begin-requires c κs =
       s .pre .names,
     )
 
+goal-of-requires : tie.Need-goal-of-requires
+goal-of-requires c κs =
+    let s = start (section-of (c .before .before .before .before)) in
+    (pair-fits _ _ (s .pre .fine), omega (arith, pair-entries _ _ (s .pre .fine)))
+
+formula-requires : tie.Need-formula-requires
+formula-requires c κs =
+    let s = start (section-of (c .before .before .before .before .before)) in (
+      pair-shape _ _ (s .pre .fine),
+      subst (λ g. g < length (meant.aims (modelOf (now (s .args .model))))) (sym (c .goal-of .ensures))
+          (pair-goal-known _ _ (s .pre .fine)),
+    )
+
+-- the goal's codes
+codes-of : (c : tie.After-formula)
+    → let s = start (section-of (c .before .before .before .before .before .before)) in
+    GoalCodes (now (s .args .model)) (traceOf (now (s .args .trace)) .goal) (now (c .formula .result))
+codes-of c =
+    let s = start (section-of (c .before .before .before .before .before .before)) in
+    subst (λ g. GoalCodes (now (s .args .model)) g (now (c .formula .result))) (c .before .goal-of .ensures)
+    (c .formula .ensures)
+
+slice-aggregate-search : tie.Need-slice-aggregate-search
+slice-aggregate-search c = search needs
+
 search-requires : tie.Need-search-requires
 unfolding modelOf meant.start
 search-requires c κs =
-    let b = c .before .before .before .before .before .before .before in
+    let b = c .before .before .before .before .before .before .before .before .before .before in
     let s = start (section-of b) in
     let facts = b .begin .ensures .0 in
     let names = b .begin .ensures .1 in
@@ -63,11 +92,16 @@ search-requires c κs =
         facts = fun-ext (λ g. facts .set g ∙ ap (λ (l : List ℕ). listed (words l) g) initial) i;
         names = fun-ext (λ g. names .set g ∙ ap (λ (l : List ℕ). listed l g) in-use) i;
       },
+      codes-of (c .before .before .before .before),
+      keeps-zeros (aimed (now (s .args .model)) (now (s .args .trace))),
     )
+
+slice-aggregate-finish : tie.Need-slice-aggregate-finish
+slice-aggregate-finish c = search needs
 
 finish-requires : tie.Need-finish-requires
 finish-requires c κs =
-    let found = c .before .before .before .before .before .before .before .before .before in
+    let found = c .before .before .before .before .before .before .before .before .before .before .before in
     let b = begun found in
     let s = start (section-of b) in
     let led = found .search .ensures in (
@@ -78,6 +112,7 @@ finish-requires c κs =
         names = omega (arith, led .names-kept .as-long, b .begin .ensures .1 .kept .as-long, s .pre .names);
       },
       steps-here _ _ led,
+      codes-of (found .before .before .before .before .before),
     )
 
 count-requires : tie.Need-count-requires
@@ -85,7 +120,7 @@ count-requires c κs = search needs
 
 verdict-requires : tie.Need-verdict-requires
 verdict-requires c κs =
-    let f = c .before .before .before .before .before in
+    let f = c .before .before .before .before .before .before in
     let s = start (section-of (begun (found-of f))) in
     let ended = f .finish .ensures in
     let table = ended .left .rounds in (
@@ -105,20 +140,22 @@ verdict-requires c κs =
 
 same-length : tie.Need-same-length
 same-length c =
-    let f = c .before .before .before .before .before .before in
+    let f = c .before .before .before .before .before .before .before in
     found-of f .search .ensures .kept .as-long ∙ begun (found-of f) .begin .ensures .0 .kept .as-long
 
 same-length-2 : tie.Need-same-length-2
-same-length-2 c = search needs
+same-length-2 c =
+    let f = c .before .before .before .before .before .before .before in
+    f .finish .ensures .left .rounds .as-long ∙ found-of f .search .ensures .as-long
 
 same-length-3 : tie.Need-same-length-3
 same-length-3 c =
-    let f = c .before .before .before .before .before .before in
+    let f = c .before .before .before .before .before .before .before in
     found-of f .search .ensures .names-kept .as-long ∙ begun (found-of f) .begin .ensures .1 .kept .as-long
 
 returns : tie.Need-returns
 returns c =
-    let f = c .before .before .before .before .before .before in
+    let f = c .before .before .before .before .before .before .before in
     let began = begun (found-of f) .begin .ensures in
     let led = found-of f .search .ensures in (
       c .verdict .ensures,
@@ -133,7 +170,11 @@ run-spec =
     section-requires
     names-requires
     begin-requires
+    goal-of-requires
+    formula-requires
+    slice-aggregate-search
     search-requires
+    slice-aggregate-finish
     finish-requires
     count-requires
     verdict-requires

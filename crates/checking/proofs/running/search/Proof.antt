@@ -22,8 +22,9 @@ use Rattle.files.proofs.Lists.{rule-there, rule-A}
 use Rattle.files.proofs.Traces.{pair-shape, pair-fits, pair-entries}
 use Rattle.checking.proofs.Looking.{asks-length, asks-known, looking-start, looking-hit}
 use Rattle.checking.proofs.Looking.{looking-next, looking-end}
-use Rattle.checking.proofs.Stepwise.{on-start, on-fired, on-stop, on-end}
-use Rattle.checking.proofs.running.search.Proof.Places.{μ-loop, μ-search, Inv-loop, Inv-search, model, trace, shape, on, few-steps}
+use Rattle.checking.proofs.Aiming.{keeps-next}
+use Rattle.checking.proofs.Stepwise.{closure-shown, on-start, on-fired, on-stop, on-end}
+use Rattle.checking.proofs.running.search.Proof.Places.{μ-loop, μ-search, Inv-loop, Inv-search, start, model, trace, shape, on, few-steps}
 use Rattle.checking.proofs.running.search.Proof.Places.{entries-size, long, room, names-room, at-closing, closed, few-more}
 use Rattle.checking.proofs.running.search.Proof.Places.{step-there, closing-of, at-rule, known-rule, cut-of, list-is}
 use Rattle.checking.proofs.running.search.Proof.Places.{record-of, P, N, made, known-P, known-N, table-long, lists, below}
@@ -35,12 +36,12 @@ use Rattle.checking.proofs.running.search.Tie as tie
 
 entries-requires : tie.Need-entries-requires Inv-loop μ-loop Inv-search μ-search
 entries-requires c κs =
-    let s = c .before .before .before .before .before in
+    let s = c .before .before .before .before .before .before .before in
     pair-fits (now (s .args .model)) (now (s .args .trace)) (s .pre .0 .fine)
 
 sub-steps : tie.Need-sub-steps Inv-loop μ-loop Inv-search μ-search
 sub-steps c =
-    let s = c .before .before .before .before .before .before in
+    let s = c .before .before .before .before .before .before .before .before in
     omega (
       arith,
       ap length (c .entries .ensures),
@@ -49,11 +50,11 @@ sub-steps c =
 
 section-requires : tie.Need-section-requires Inv-loop μ-loop Inv-search μ-search
 section-requires c κs =
-    let s = c .before .before .before .before .before .before in
+    let s = c .before .before .before .before .before .before .before .before in
     pair-shape (now (s .args .model)) (now (s .args .trace)) (s .pre .0 .fine)
 
 search-holds : tie.Need-search-holds Inv-loop μ-loop Inv-search μ-search
-search-holds c = on-start _ _ _ (c .before .before .before .before .before .before .before .pre .1)
+search-holds c = let s = c .before .before .before .before .before .before .before .before .before in on-start _ _ _ (s .pre .1) (s .pre .3)
 
 close-judged-requires : tie.Need-close-judged-requires Inv-loop μ-loop Inv-search μ-search
 close-judged-requires c κs = let s = c .before .before .before in (shape s, long s)
@@ -123,7 +124,10 @@ loop-again c =
 
 rule-list-requires-3 : tie.Need-rule-list-requires-3 Inv-loop μ-loop Inv-search μ-search
 unfolding listCount
-rule-list-requires-3 c κs = (cut-of (record-of (c .before .before .before)), lit< tt)
+rule-list-requires-3 c κs = (cut-of (record-of (c .before .before .before .before .before .before .before .before)), lit< tt)
+
+advance-requires : tie.Need-advance-requires Inv-loop μ-loop Inv-search μ-search
+advance-requires c κs = table-long (c .before .before .before .before .before)
 
 apply-requires : tie.Need-apply-requires Inv-loop μ-loop Inv-search μ-search
 apply-requires c κs =
@@ -152,13 +156,16 @@ search-again c =
     let a = applied .before .before .before in
     let l = lists-3 a in
     let k = closing-of (word-of l) in
-    let done = a .before in
+    let advanced = a .before .before .before in
+    let done = advanced .before .before .before in
+    let s = here l in
+    let keeps = keeps-next (model s) (trace s) (start s .pre .2) (on s .past) (on s .keeps) (advanced .advance .ensures) in
     let none-left =
     looking-end (P l) (N l) (made l) (done .before .loop .inv)
     (rw (asks-length (P l) (N l) (made l))
     (omega (arith, done .before .before .count .ensures, done .loop-test .left))) in
     on-fired (model (here l)) (trace (here l)) (on (here l)) (closed k) refl (step-there k) (asked-is l none none-left)
-    (few-more k) (P-is l)
+    (few-more k) (closure-shown (model s) (shape s) (closed k)) keeps (advanced .advance .ensures .kept .as-long) (P-is l)
     (rule-A _ _ (list-is (record-of l) 2 (a .rule-list3 .ensures)) ∙ rule-is l (λ r. r .A)) (made-is l)
     (persistent-in _ (here l .before .section .ensures))
     (applied .apply .ensures .0) (applied .apply .ensures .1)
@@ -172,20 +179,26 @@ same-length-2 c = on (c .before) .as-long
 same-length-3 : tie.Need-same-length-3 Inv-loop μ-loop Inv-search μ-search
 same-length-3 c = on (c .before) .names-kept .as-long
 
+same-length-4 : tie.Need-same-length-4 Inv-loop μ-loop Inv-search μ-search
+same-length-4 c = on (c .before) .bits-long
+
 returns : tie.Need-returns Inv-loop μ-loop Inv-search μ-search
 unfolding unmetIn
 returns c = on-end _ _ (on (c .before)) (omega (arith, c .if1 .taken, entries-size (c .before))) refl refl refl
 
-same-length-4 : tie.Need-same-length-4 Inv-loop μ-loop Inv-search μ-search
-same-length-4 c = on (here (lists (c .before .before .before .before .before))) .kept .as-long
-
 same-length-5 : tie.Need-same-length-5 Inv-loop μ-loop Inv-search μ-search
-same-length-5 c =
+same-length-5 c = on (here (lists (c .before .before .before .before .before))) .kept .as-long
+
+same-length-6 : tie.Need-same-length-6 Inv-loop μ-loop Inv-search μ-search
+same-length-6 c =
     let l = lists (c .before .before .before .before .before) in
     closed (closing-of (word-of l)) .filled .as-long ∙ on (here l) .as-long
 
-same-length-6 : tie.Need-same-length-6 Inv-loop μ-loop Inv-search μ-search
-same-length-6 c = on (here (lists (c .before .before .before .before .before))) .names-kept .as-long
+same-length-7 : tie.Need-same-length-7 Inv-loop μ-loop Inv-search μ-search
+same-length-7 c = on (here (lists (c .before .before .before .before .before))) .names-kept .as-long
+
+same-length-8 : tie.Need-same-length-8 Inv-loop μ-loop Inv-search μ-search
+same-length-8 c = on (here (lists (c .before .before .before .before .before))) .bits-long
 
 returns-2 : tie.Need-returns-2 Inv-loop μ-loop Inv-search μ-search
 unfolding unmetIn
@@ -228,6 +241,7 @@ search-spec =
     add-i
     loop-less
     loop-again
+    advance-requires
     rule-list-requires-3
     apply-requires
     add-fired
@@ -236,8 +250,10 @@ search-spec =
     same-length
     same-length-2
     same-length-3
-    returns
     same-length-4
+    returns
     same-length-5
     same-length-6
+    same-length-7
+    same-length-8
     returns-2)

@@ -1,20 +1,21 @@
 -- `running::verdict` meets its contract: one case for each ending.
-use Prim.Native.Nat.{_<_}
+use Prim.Native.Nat.{ℕ, _<_}
 use mathlib.Core.Path.{_≡_, sym, ap, _∙_, subst}
+use mathlib.Core.List.{List}
 use mathlib.Core.Logic.{inl, inr}
+use mathlib.Core.Option.{none}
 use native.Mathlib.Omega.{arith}
 use denote.Ref.{now}
 use lib.ListN.{length}
-use Rattle.records.specs.Words.{word}
-use Rattle.files.specs.Files.{modelOf, traceOf}
+use Rattle.meaning.specs.Model.{aims}
+use Rattle.files.specs.Files.{pairFault, modelOf, traceOf}
 use Rattle.files.specs.Answers.{goalPart}
-use Rattle.files.proofs.Lists.{goal-there}
-use Rattle.files.proofs.Traces.{pair-shape, pair-fits, pair-entries, pair-few, pair-goal-known, goal-entry}
+use Rattle.files.proofs.Traces.{pair-shape, pair-fits, pair-entries, pair-few, pair-goal-known}
 use Rattle.checking.specs.Running.{conditionOf, endingOf, KnownIn}
 use Rattle.checking.specs.declared.conditions.Condition.the-variants as condition
 use Rattle.checking.specs.declared.running.Ending.the-variants as ends
 use Rattle.checking.proofs.Ends.{ending-known, round-is}
-use Rattle.checking.proofs.Verdicts.{ran-attack, ran-blocked, ran-notMet}
+use Rattle.checking.proofs.Verdicts.{ran-attack, ran-blocked, ran-notMet, ran-upheld}
 use borrow.Author.Needs.{needs}
 use Rattle.checking.proofs.running.verdict.Statement.{statement}
 use Rattle.checking.proofs.running.verdict.Tie as tie
@@ -29,12 +30,9 @@ module _ (s : tie.Start) (c : condition.the-data) where
   unfolding endingOf
   known-notMet told = ending-known _ _ (s .pre .0) (conditionOf c) (inr (sym (s .pre .1 .ending) ∙ ap endingOf told))
 
-module _ (c : tie.After-word-at) where
-  abbrev start : tie.Start
-  start = c .before .before .before .before .before .before .before .before .before .before .before
-
-  number-is : c .word-at .result ≡ traceOf (now (start .args .trace)) .goal
-  number-is = c .word-at .ensures ∙ ap word (c .before .entries .ensures) ∙ sym (goal-entry _)
+-- a trace that is judged names a goal that the model has
+named : (m t : List ℕ) → pairFault m t ≡ none → {g : ℕ} → g ≡ traceOf t .goal → g < length (aims (modelOf m))
+named m t fine is = subst (λ g. g < length (aims (modelOf m))) (sym is) (pair-goal-known m t fine)
 
 enum-told : tie.Need-enum-told
 enum-told c = search needs
@@ -82,22 +80,28 @@ round-of-requires-2 c κs =
     let s = told .before .before .before .before .before in
     (known-notMet s _ (told .ending2 .given .1), s .pre .2 .long)
 
-entries-requires : tie.Need-entries-requires
-entries-requires c κs =
-    pair-fits _ _ (c .before .before .before .before .before .before .before .before .before .pre .0)
-
-word-at-requires : tie.Need-word-at-requires
-word-at-requires c κs =
-    let s = c .before .before .before .before .before .before .before .before .before .before in
-    omega (arith, ap length (c .entries .ensures), pair-entries _ _ (s .pre .0))
+goal-of-requires : tie.Need-goal-of-requires
+goal-of-requires c κs =
+    let s = c .before .before .before .before .before .before .before .before .before in
+    (pair-fits _ _ (s .pre .0), omega (arith, pair-entries _ _ (s .pre .0)))
 
 goal-part-requires : tie.Need-goal-part-requires
 goal-part-requires c κs =
-    let s = start c in
-    let m = modelOf (now (s .args .model)) in (
-      pair-shape _ _ (s .pre .0),
-      goal-there _ (subst (λ g. g < length (m .goals)) (sym (number-is c)) (pair-goal-known _ _ (s .pre .0))),
-    )
+    let s = c .before .before .before .before .before .before .before .before .before .before in
+    (pair-shape _ _ (s .pre .0), named _ _ (s .pre .0) (c .goal-of .ensures))
+
+enum-told-2 : tie.Need-enum-told-2
+enum-told-2 c = search needs
+
+goal-of-requires-2 : tie.Need-goal-of-requires-2
+goal-of-requires-2 c κs =
+    let s = c .before .before .before .before .before in
+    (pair-fits _ _ (s .pre .0), omega (arith, pair-entries _ _ (s .pre .0)))
+
+goal-part-requires-2 : tie.Need-goal-part-requires-2
+goal-part-requires-2 c κs =
+    let s = c .before .before .before .before .before .before in
+    (pair-shape _ _ (s .pre .0), named _ _ (s .pre .0) (c .goal-of2 .ensures))
 
 returns : tie.Need-returns
 returns c = let s = c .before .before .before .before .before in ran-attack _ _ _ _ (s .pre .1) (c .enum-told .given .1)
@@ -115,14 +119,21 @@ returns-2 c =
 
 returns-3 : tie.Need-returns-3
 returns-3 c =
-    let w = c .before in
-    let r = w .before .before in
+    let g = c .before in
+    let r = g .before in
     let told = r .before .before .before .before in
-    let s = start w in
+    let s = told .before .before .before .before .before in
     let known = known-notMet s _ (told .ending2 .given .1) in
     ran-notMet _ _ _ _ (s .pre .1) _ (r .before .before .fact-of2 .ensures) (r .before .kind-of2 .ensures)
     (r .round-of2 .ensures ∙ round-is _ _ (s .pre .2) _ known) (told .ending2 .given .1)
-    (c .goal-part .ensures ∙ ap (goalPart (now (s .args .model))) (number-is w))
+    (c .goal-part .ensures ∙ ap (goalPart (now (s .args .model))) (g .goal-of .ensures))
+
+returns-4 : tie.Need-returns-4
+returns-4 c =
+    let g = c .before in
+    let s = g .before .before .before .before .before .before in
+    ran-upheld _ _ _ _ (s .pre .1) (g .before .enum-told2 .given .1)
+    (c .goal-part2 .ensures ∙ ap (goalPart (now (s .args .model))) (g .goal-of2 .ensures))
 
 pub verdict-spec : {M : Type 1} → statement M
 verdict-spec =
@@ -140,9 +151,12 @@ verdict-spec =
     fact-of-requires-2
     kind-of-requires-2
     round-of-requires-2
-    entries-requires
-    word-at-requires
+    goal-of-requires
     goal-part-requires
+    enum-told-2
+    goal-of-requires-2
+    goal-part-requires-2
     returns
     returns-2
-    returns-3)
+    returns-3
+    returns-4)

@@ -20,8 +20,8 @@ abbrev trace-of : tie.After-head-number2 → List ℕ
 trace-of c = now (c .before .before .before .before .args .trace)
 
 -- what the numbers for size and version say
-model-head : (c : tie.After-head-number2) → Head 65536 3 (model-of c) (c .before .head-number .result)
-model-head c = head-told 65536 3 (model-of c) (c .before .head-number .ensures)
+model-head : (c : tie.After-head-number2) → Head 65536 4 (model-of c) (c .before .head-number .result)
+model-head c = head-told 65536 4 (model-of c) (c .before .head-number .ensures)
 
 trace-head : (c : tie.After-head-number2) → Head 4096 1 (trace-of c) (c .head-number2 .result)
 trace-head c = head-told 4096 1 (trace-of c) (c .head-number2 .ensures)
@@ -35,7 +35,7 @@ sizes c = (
 )
 
 -- the model's version is right
-version : (c : tie.Else3) → wrongVersion 3 (model-of (c .before .before .before)) ≡ none
+version : (c : tie.Else3) → wrongVersion 4 (model-of (c .before .before .before)) ≡ none
 version c = model-head (c .before .before .before) .other (c .before .before .if1 .left) (c .if3 .left) .1
 
 head-number-requires : tie.Need-head-number-requires

@@ -1,67 +1,43 @@
--- `held::goal_part` meets its contract: the record stands at its place in its section, and that in the model.
-use Prim.Native.Nat.{_+_, _≤_}
+-- `held::goal_part` meets its contract: the goals are the attack states and then the formulas.
+use mathlib.Core.Path.{_∙_}
 use denote.Ref.{now}
-use lib.ListN.{length}
-use Rattle.records.proofs.Places.{place-record, place-le}
-use Rattle.sections.specs.declared.Role.the-variants.{Goals}
-use Rattle.files.specs.Files.{sectionOf}
-use Rattle.files.proofs.Roles.{always}
-use Rattle.files.proofs.Shaped.{role-ends}
-use native.Mathlib.Omega.{arith}
+use borrow.Author.Tests.{lt-ltb, le-ltb}
 use Rattle.files.specs.Answers.{goalPart}
+use Rattle.files.proofs.Aims.{state-there, formula-there}
 use borrow.Author.Needs.{needs}
 use Rattle.files.proofs.held.goal_part.Statement.{statement}
 use Rattle.files.proofs.held.goal_part.Tie as tie
 
--- the place lies in the model
-within : (c : tie.After-place-of)
-    → c .place-of .result + 4 + c .before .before .place .result
-    ≤ length (now (c .before .before .before .before .before .args .model))
-within c =
-    let p = c .before .before in
-    let start = p .before .before .before in
-    let model = now (start .args .model) in
-    let at = p .place .ensures in
-    let inside : p .place .result ≤ length (sectionOf model Goals) =
-    rw (at, p .before .section .ensures) (place-le (sectionOf model Goals) (start .args .g)) in
-    omega (arith, c .place-of .ensures, role-ends model (start .pre .0) Goals (always model .goals))
+state-count-requires : tie.Need-state-count-requires
+state-count-requires c κs = search needs
 
-section-requires : tie.Need-section-requires
-section-requires c κs = search needs
+record-part-requires : tie.Need-record-part-requires
+record-part-requires c κs =
+    let start = c .before .before .before in
+    let below = rw (c .before .state-count .ensures) at (c .if1 .taken) in
+    (start .pre .0, state-there (now (start .args .model)) below)
 
-place-requires : tie.Need-place-requires
-place-requires c κs = search needs
-
-record-at-requires : tie.Need-record-at-requires
-record-at-requires c κs = search needs
-
-place-of-requires : tie.Need-place-of-requires
-place-of-requires c κs = search needs
-
-add-t8 : tie.Need-add-t8
-add-t8 c = omega (arith, within c)
-
-add-t9 : tie.Need-add-t9
-add-t9 c = omega (arith, within c)
+record-part-requires-2 : tie.Need-record-part-requires-2
+record-part-requires-2 c κs =
+    let start = c .before .before .before in
+    let is = c .before .state-count .ensures in
+    let there = formula-there (now (start .args .model)) (start .args .g) (rw is at (c .if1 .left)) (start .pre .1) in
+    (start .pre .0, rw is there)
 
 returns : tie.Need-returns
 unfolding goalPart
 returns c =
-    let p = c .before .before in
-    let s = p .before in
-    let start = s .before .before in
-    let goal = place-record (sectionOf (now (start .args .model)) Goals) (start .args .g) (start .pre .1) in
-    let is = rw (p .place .ensures, s .section .ensures, goal) at (c .before .record-at .ensures) in
-    rw (c .place-of .ensures, is, p .place .ensures, s .section .ensures)
+    let below = rw (c .before .before .state-count .ensures) at (c .before .if1 .taken) in
+    c .record-part .ensures ∙ rw (lt-ltb _ _ below)
+
+returns-2 : tie.Need-returns-2
+unfolding goalPart
+returns-2 c =
+    let is = c .before .before .state-count .ensures in
+    let from = rw is at (c .before .if1 .left) in
+    c .record-part2 .ensures ∙ rw (le-ltb _ _ from, is)
 
 pub goal-part-spec : {M : Type 1} → statement M
 goal-part-spec =
     tie.close
-    (tie.spec
-    section-requires
-    place-requires
-    record-at-requires
-    place-of-requires
-    add-t8
-    add-t9
-    returns)
+    (tie.spec state-count-requires record-part-requires record-part-requires-2 returns returns-2)

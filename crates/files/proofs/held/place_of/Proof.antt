@@ -14,7 +14,7 @@ use borrow.Author.Needs.{needs}
 use Rattle.sets.proofs.Laws.{below-or-from}
 use Rattle.sections.specs.Sections.{sectionAt, fits}
 use Rattle.sections.specs.declared.Role.{Role}
-use Rattle.sections.specs.declared.Role.the-variants.{Goals}
+use Rattle.sections.specs.declared.Role.the-variants.{Formulas}
 use Rattle.files.specs.Files.{roles, rolesOf, tag, indexOf, placeOfRole}
 use Rattle.files.proofs.Roles.{found-at, found-nowhere}
 use Rattle.files.proofs.Shaped.{section-fits}
@@ -23,7 +23,7 @@ use Rattle.files.proofs.held.place_of.Tie as tie
 
 abbrev Inv-loop : tie.InvT-loop
 Inv-loop model version sections number at₀ i₀ at i =
-    (i ≤ sections) × ((j : ℕ) → j < i → tag (getD (roles version) j Goals) ≡ number → ⊥) × (at ≡ sectionAt model i)
+    (i ≤ sections) × ((j : ℕ) → j < i → tag (getD (roles version) j Formulas) ≡ number → ⊥) × (at ≡ sectionAt model i)
 
 abbrev μ-loop : tie.MeasureT-loop
 μ-loop model version sections number at₀ i₀ at i = sections - i
@@ -55,7 +55,7 @@ module _ (c : tie.At-loop Inv-loop μ-loop) where
 -- the number of the section at hand
 number-here : (c : tie.After-tag-of2 Inv-loop μ-loop)
     → let loop = c .before .before .before in
-    c .tag-of2 .result ≡ tag (getD (roles (version loop)) (loop .loop .i) Goals)
+    c .tag-of2 .result ≡ tag (getD (roles (version loop)) (loop .loop .i) Formulas)
 number-here c = c .tag-of2 .ensures ∙ ap tag (c .before .role-at .ensures)
 
 -- the section at hand fits
@@ -117,7 +117,7 @@ loop-again c =
       λ j h e.
           ⊎-elim (λ l. earlier j l e)
           (λ l. c .before .if1 .left
-          (number-here looked ∙ ap (λ i. tag (getD (roles (version loop)) i Goals)) (omega arith) ∙ e))
+          (number-here looked ∙ ap (λ i. tag (getD (roles (version loop)) i Formulas)) (omega arith) ∙ e))
           (below-or-from j (loop .loop .i)),
       c .section-end .ensures ∙ rw (there inside, at-is, add-one),
     )

@@ -10,8 +10,8 @@ use Rattle.files.proofs.model.judge_model.Statement.{statement}
 use Rattle.files.proofs.model.judge_model.Tie as tie
 
 -- what the number for size and version says
-head-of : (c : tie.After-head-number) → Head 65536 3 (now (c .before .before .args .model)) (c .head-number .result)
-head-of c = head-told 65536 3 _ (c .head-number .ensures)
+head-of : (c : tie.After-head-number) → Head 65536 4 (now (c .before .before .args .model)) (c .head-number .result)
+head-of c = head-told 65536 4 _ (c .head-number .ensures)
 
 head-number-requires : tie.Need-head-number-requires
 head-number-requires c κs = search needs

@@ -6,14 +6,15 @@ use lib.ListN.{length, getD}
 use Rattle.sections.specs.Sections.{endAt, payload, inSection, reader, entries}
 use Rattle.sections.specs.Answers.{passed}
 use Rattle.sections.specs.declared.Role.{Role}
-use Rattle.sections.specs.declared.Role.the-variants.{Goals}
+use Rattle.sections.specs.declared.Role.the-variants.{Formulas}
 use Rattle.files.specs.Files.{rolesOf}
 use Rattle.files.proofs.Answers.{judged-some, judged-none}
 use borrow.Author.Needs.{needs}
 use Prim.Native.Nat.{ℕ, _-_, _≤_, _<_}
 use mathlib.Core.List.{List}
 use native.Mathlib.Omega.{arith}
-use Rattle.files.proofs.Order.{Onward, onward-start, onward-next, onward-fault, onward-left, onward-end}
+use Rattle.files.proofs.Order.{Onward, onward-start, onward-few, onward-next, onward-fault, onward-left}
+use Rattle.files.proofs.Order.{onward-end}
 use Rattle.files.proofs.model.judge_shape.Statement.{statement}
 use Rattle.files.proofs.model.judge_shape.Tie as tie
 
@@ -50,7 +51,7 @@ module _ (c : tie.After-judge-section Inv-loop μ-loop) where
   more = rw (← count-is loop) (c .before .before .loop-test .taken)
 
   abbrev role : Role
-  role = getD (rolesOf (file loop)) (loop .loop .i) Goals
+  role = getD (rolesOf (file loop)) (loop .loop .i) Formulas
 
   role-is : c .before .role-at .result ≡ role
   unfolding rolesOf
@@ -94,7 +95,9 @@ enum-known-end : tie.Need-enum-known-end Inv-loop μ-loop
 enum-known-end c = search needs
 
 note-requires : tie.Need-note-requires Inv-loop μ-loop
-note-requires c κs = search needs
+note-requires c κs =
+    let asked = c .before .before .before in
+    omega (arith, onward-few _ _ (on asked) (more asked) (section-is asked) (c .before .end .given .1))
 
 add-i : tie.Need-add-i Inv-loop μ-loop
 add-i c = omega arith

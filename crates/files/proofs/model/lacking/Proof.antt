@@ -2,7 +2,7 @@
 use mathlib.Core.Path.{_≡_}
 use native.Mathlib.Nat.{add-zero}
 use native.Mathlib.Omega.{arith}
-use Rattle.files.proofs.Roles.{roles-three, first-two, two-less, third-same, one-less}
+use Rattle.files.proofs.Roles.{first-two, two-less, third-same, one-less, none-less}
 use Rattle.files.proofs.model.lacking.Statement.{statement}
 use Rattle.files.proofs.model.lacking.Tie as tie
 
@@ -20,7 +20,7 @@ returns-4 : tie.Need-returns-4
 returns-4 c = (one-less _ _ (c .before .before .if2 .left) (c .if4 .taken) (c .before .if3 .left), omega arith)
 
 returns-5 : tie.Need-returns-5
-returns-5 c = (rw (add-zero, roles-three _ (c .if4 .left), roles-three 3 (omega arith)), omega arith)
+returns-5 c = (rw add-zero (none-less _ _ (c .if4 .left)), omega arith)
 
 pub lacking-spec : {M : Type 1} → statement M
 lacking-spec = tie.close (tie.spec returns returns-2 returns-3 returns-4 returns-5)

@@ -2,7 +2,7 @@
 use mathlib.Core.Path.{_∙_, sym}
 use native.Mathlib.Omega.{arith}
 use borrow.Author.Needs.{needs}
-use Rattle.files.proofs.Roles.{at-most-seven}
+use Rattle.files.proofs.Roles.{at-most-eight}
 use Rattle.files.proofs.model.role_at.Statement.{statement}
 use Rattle.files.proofs.model.role_at.Tie as tie
 
@@ -10,7 +10,7 @@ lacking-requires : tie.Need-lacking-requires
 lacking-requires c κs = search needs
 
 add-role-of : tie.Need-add-role-of
-add-role-of c = omega (arith, c .before .pre, at-most-seven (c .before .args .version), c .lacking .ensures .1)
+add-role-of c = omega (arith, c .before .pre, at-most-eight (c .before .args .version), c .lacking .ensures .1)
 
 role-of-requires : tie.Need-role-of-requires
 role-of-requires c κs = search needs

@@ -28,26 +28,29 @@ use Rattle.checking.proofs.Stepwise.{closure-shown, rounds-few, asked, 
 use Rattle.checking.proofs.running.search.Tie as tie
 
 abbrev pub Inv-loop : tie.InvT-loop
-Inv-loop model trace state table names entries steps persistent fired rounds rule p n made count i₀ i =
+Inv-loop model trace codes state table names kept entries steps persistent fired rounds rule p n made count i₀ i =
     Looking p n made (numbered table) (namesIn names) i
 
 abbrev pub μ-loop : tie.MeasureT-loop
-μ-loop model trace state table names entries steps persistent fired rounds rule p n made count i₀ i = count - i
+μ-loop model trace codes state table names kept entries steps persistent fired rounds rule p n made count i₀ i =
+    count - i
 
 abbrev pub Inv-search : tie.InvT-search
-Inv-search model trace state₀ table₀ names₀ entries steps persistent fired₀ rounds₀ state table names fired rounds =
+Inv-search model trace codes state₀ table₀ names₀ kept₀ entries steps persistent fired₀ rounds₀ state table names kept
+    fired rounds =
     On model trace (record { state = state₀; table = table₀; names = names₀ })
-    (record { state = state; table = table; names = names }) fired rounds
+    (record { state = state; table = table; names = names }) kept₀ kept fired rounds
 
 abbrev pub μ-search : tie.MeasureT-search
-μ-search model trace state₀ table₀ names₀ entries steps persistent fired₀ rounds₀ state table names fired rounds =
+μ-search model trace codes state₀ table₀ names₀ kept₀ entries steps persistent fired₀ rounds₀ state table names kept
+    fired rounds =
     steps - fired
 
 -- ---- what is known before a step
 
 module _ (s : tie.At-search Inv-loop μ-loop Inv-search μ-search) where
   abbrev pub start : tie.Start Inv-loop μ-loop Inv-search μ-search
-  start = s .before .before .before .before .before .before .before .before
+  start = s .before .before .before .before .before .before .before .before .before .before
 
   abbrev pub model : List ℕ
   model = now (start .args .model)
@@ -69,7 +72,7 @@ module _ (s : tie.At-search Inv-loop μ-loop Inv-search μ-search) where
 
   abbrev pub on : On model trace
       (record { state = now (start .args .state); table = now (start .args .table); names = now (start .args .names) })
-      lent (s .search .fired) (s .search .rounds)
+      lent (now (start .args .kept)) (s .search .kept) (s .search .fired) (s .search .rounds)
   on = s .search .inv
 
   pub few-steps : length ks ≤ 1024
@@ -186,7 +189,7 @@ module _ (c : tie.In-loop Inv-loop μ-loop Inv-search μ-search) where
 
 module _ (c : tie.After-rule-list3 Inv-loop μ-loop Inv-search μ-search) where
   abbrev pub lists-3 : tie.After-made Inv-loop μ-loop Inv-search μ-search
-  lists-3 = c .before .before .before .before
+  lists-3 = c .before .before .before .before .before .before .before .before .before
 
   pub known-A : Known (now (c .rule-list3 .result))
   known-A = known-list (record-of lists-3) 2 (lit< tt) (c .rule-list3 .ensures)

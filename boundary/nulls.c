@@ -11,6 +11,9 @@ int main(void)
     /* 5 facts; clauses 0, 1 and 2 from nothing; two rules and one attack state without conditions */
     static const uint8_t model[] = {1, 0, 0, 0, 2, 0, 5, 0, 0, 0, 0, 0, 0, 0, 12, 0, 2, 0, 0, 0, 2, 0, 1, 0, 2, 0, 2,
         0, 0, 0, 16, 0, 6, 0, 0, 0, 0, 0, 0, 0, 6, 0, 0, 0, 0, 0, 0, 0, 0, 0, 6, 0, 4, 0, 0, 0, 0};
+    /* one fact; one attack state without conditions, and fact 0 twice as a formula */
+    static const uint8_t past[] = {4, 0, 0, 0, 2, 0, 1, 0, 0, 0, 0, 0, 0, 0, 0, 0, 0, 0, 0, 0, 0, 0, 0, 0, 0, 0, 0,
+        0, 0, 0, 6, 0, 4, 0, 0, 0, 0, 0, 0, 0, 8, 0, 2, 0, 0, 0, 2, 0, 0};
     uint64_t out[10];
     memset(state, JUNK, sizeof state);
     memset(part, JUNK, sizeof part);
@@ -51,6 +54,9 @@ int main(void)
     expect("its rules", out[CANTIVOREX_HAS_RULES], 2);
     expect("its attack states", out[CANTIVOREX_HAS_GOALS], 1);
     expect("nothing after them", all(out + CANTIVOREX_HAS_ENTRIES, 6 * sizeof *out, JUNK), 1);
+    expect("a model with formulas to count", cantivorex_safe_count(past, sizeof past, out, 10), 0);
+    expect("its attack states and formulas", out[CANTIVOREX_HAS_GOALS], 3);
+    expect("half a formula to count", cantivorex_safe_count(past, sizeof past - 1, out, 10), CANTIVOREX_SHAPE);
     /* Room for the verdict: the refusal is written there. */
     expect("no state",
         cantivorex_safe_check(file, 5, file, 5, NULL, 512, table, 4096, names, 128, out, 10), CANTIVOREX_ROOM);

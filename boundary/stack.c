@@ -8,9 +8,12 @@
 #include <ucontext.h>
 
 /* The most bytes that each may take: what was measured, and a tenth. */
-enum { CHECK_LIMIT = 618, CLOSE_LIMIT = 477, COUNT_LIMIT = 442, PART_LIMIT = 44 };
+enum { CHECK_LIMIT = 757, CLOSE_LIMIT = 477, COUNT_LIMIT = 442, PART_LIMIT = 44 };
 
 enum { STACK = 1 << 20, FACTS = 4096, STORED = 32, HEADS = 64, NEVER = FACTS - 1 };
+
+/* A formula's operators, and how deep one is that has two parts everywhere and 255 codes. */
+enum { NOT = 32768, SINCE = 32775, TREE = 8 };
 
 struct file {
     uint8_t bytes[65537];
@@ -23,11 +26,11 @@ static uint16_t table[CANTIVOREX_TABLE_ENTRIES];
 static uint64_t out[CANTIVOREX_OUT_ENTRIES];
 
 /* What a pair of files is made of, and what the check and the closing answer; the count answers as the closing. A model
-   with persistent facts is of version 2, one with names in use of version 3. */
+   with persistent facts is of version 2, one with names in use of version 3, one with a formula, so deep, of 4. */
 struct pair {
     const char *name;
     uint8_t check, close;
-    size_t clauses, body, steps, last_rule, goal, persistent, names;
+    size_t clauses, body, steps, last_rule, goal, persistent, names, deep;
     void (*spoil)(void);
 };
 
@@ -74,12 +77,12 @@ static void write_clauses(const struct pair *pair)
 }
 
 /* Three rules, or three attack states, with full lists. The first holds; in the second the last fact of P is missing;
-   in the third the last of N is there, since the last clause gives it. Version 3 has a fourth rule, which holds and
-   makes names 991 to 1,021 and 1,023. */
+   in the third the last of N is there, since the last clause gives it. From version 3 on there is a fourth rule, which
+   holds and makes names 991 to 1,021 and 1,023. */
 static void write_conditions(const struct pair *pair, int are_rules)
 {
     size_t section = begin(&model, 4);
-    int named = are_rules && pair->names, count = named ? 4 : 3;
+    int named = are_rules && (pair->names || pair->deep), count = named ? 4 : 3;
     for (int i = 0; i < count; i++) {
         size_t record = begin(&model, 2);
         list(0, i == 1 ? NEVER : STORED - 1);
@@ -104,21 +107,43 @@ static void write_facts(size_t count)
     end(&model, section, 4);
 }
 
+/* Since over two parts that are made alike, down to fact 0, which is there. */
+static void write_tree(size_t deep)
+{
+    word(&model, deep > 1 ? SINCE : 0);
+    for (int part = 0; deep > 1 && part < 2; part++)
+        write_tree(deep - 1);
+}
+
+/* One formula: a tree, which is true, or `not` above `not` above fact 0. */
+static void write_formulas(size_t deep)
+{
+    size_t section = begin(&model, 4), record = begin(&model, 2);
+    if (deep == TREE)
+        write_tree(deep);
+    for (size_t level = 1; deep != TREE && level <= deep; level++)
+        word(&model, level < deep ? NOT : 0);
+    end(&model, record, 2);
+    end(&model, section, 4);
+}
+
 static void write_model(const struct pair *pair)
 {
-    model.bytes[0] = pair->names ? 3 : pair->persistent ? 2 : 1;
+    model.bytes[0] = pair->deep ? 4 : pair->names ? 3 : pair->persistent ? 2 : 1;
     model.len = 1;
     size_t section = begin(&model, 4);
     word(&model, FACTS);
     end(&model, section, 4);
     write_facts(STORED);
-    if (pair->persistent || pair->names)
+    if (pair->persistent || pair->names || pair->deep)
         write_facts(pair->persistent);
-    if (pair->names)
+    if (pair->names || pair->deep)
         write_facts(pair->names);
     write_clauses(pair);
     write_conditions(pair, 1);
     write_conditions(pair, 0);
+    if (pair->deep)
+        write_formulas(pair->deep);
 }
 
 static void write_trace(const struct pair *pair)
@@ -166,29 +191,34 @@ static void end_with_fact_0(void)
 }
 
 static const struct pair pairs[] = {
-    {"a chain of 4,000 clauses", CANTIVOREX_ATTACK, 0, 4000, 1, 2, 0, 0, 0, 0, NULL},
-    {"1,790 bodies of 16 facts", CANTIVOREX_ATTACK, 0, 1790, 16, 2, 0, 0, 0, 0, NULL},
-    {"1,024 steps", CANTIVOREX_ATTACK, 0, 64, 1, 1024, 0, 0, 0, 0, NULL},
-    {"a fact missing in the last step", CANTIVOREX_BLOCKED, 0, 64, 1, 1024, 1, 0, 0, 0, NULL},
-    {"a fact in the last step's way", CANTIVOREX_BLOCKED, 0, 64, 1, 1024, 2, 0, 0, 0, NULL},
-    {"a fact missing in the goal", CANTIVOREX_NOATTACK, 0, 64, 1, 1024, 0, 1, 0, 0, NULL},
-    {"a fact in the goal's way", CANTIVOREX_NOATTACK, 0, 64, 1, 1024, 0, 2, 0, 0, NULL},
-    {"a model of 65,537 bytes", CANTIVOREX_LONG, CANTIVOREX_LONG, 64, 1, 2, 0, 0, 0, 0, make_long},
-    {"an empty trace", CANTIVOREX_VERSION, 0, 64, 1, 2, 0, 0, 0, 0, make_empty},
-    {"a byte after the model", CANTIVOREX_SHAPE, CANTIVOREX_SHAPE, 1790, 16, 2, 0, 0, 0, 0, leave_a_byte},
-    {"4,097 facts", CANTIVOREX_COUNT, CANTIVOREX_COUNT, 64, 1, 2, 0, 0, 0, 0, take_a_fact_more},
-    {"1,025 steps", CANTIVOREX_COUNT, 0, 64, 1, 1025, 0, 0, 0, 0, NULL},
-    {"fact 4,096 at the end", CANTIVOREX_FACT, CANTIVOREX_FACT, 1790, 16, 2, 0, 0, 0, 0, end_with_fact_4096},
-    {"fact 0 at the end", CANTIVOREX_ORDER, CANTIVOREX_ORDER, 1790, 16, 2, 0, 0, 0, 0, end_with_fact_0},
-    {"rule 3 in the last step", CANTIVOREX_NAME, 0, 64, 1, 1024, 3, 0, 0, 0, NULL},
-    {"goal 3", CANTIVOREX_NAME, 0, 64, 1, 1024, 0, 3, 0, 0, NULL},
-    {"4,096 persistent facts", CANTIVOREX_ATTACK, 0, 64, 1, 1024, 0, 0, 4096, 0, NULL},
-    {".. and 1,500 bodies of 16 facts", CANTIVOREX_BLOCKED, 0, 1500, 16, 2, 1, 0, 4096, 0, NULL},
-    {"persistent fact 4,096", CANTIVOREX_FACT, CANTIVOREX_FACT, 64, 1, 2, 0, 0, 4097, 0, NULL},
-    {"991 names in use, 32 made", CANTIVOREX_ATTACK, 0, 64, 1, 1024, 3, 0, 4096, 991, NULL},
-    {"1,024 names in use", CANTIVOREX_USED, 0, 64, 1, 1024, 3, 0, 4096, 1024, NULL},
-    {".. and 1,400 bodies of 16 facts", CANTIVOREX_USED, 0, 1400, 16, 2, 3, 0, 4096, 1024, NULL},
-    {"name 1,024 in use", CANTIVOREX_BADNAME, CANTIVOREX_BADNAME, 64, 1, 2, 0, 0, 0, 1025, NULL},
+    {"a chain of 4,000 clauses", CANTIVOREX_ATTACK, 0, 4000, 1, 2, 0, 0, 0, 0, 0, NULL},
+    {"1,790 bodies of 16 facts", CANTIVOREX_ATTACK, 0, 1790, 16, 2, 0, 0, 0, 0, 0, NULL},
+    {"1,024 steps", CANTIVOREX_ATTACK, 0, 64, 1, 1024, 0, 0, 0, 0, 0, NULL},
+    {"a fact missing in the last step", CANTIVOREX_BLOCKED, 0, 64, 1, 1024, 1, 0, 0, 0, 0, NULL},
+    {"a fact in the last step's way", CANTIVOREX_BLOCKED, 0, 64, 1, 1024, 2, 0, 0, 0, 0, NULL},
+    {"a fact missing in the goal", CANTIVOREX_NOATTACK, 0, 64, 1, 1024, 0, 1, 0, 0, 0, NULL},
+    {"a fact in the goal's way", CANTIVOREX_NOATTACK, 0, 64, 1, 1024, 0, 2, 0, 0, 0, NULL},
+    {"a model of 65,537 bytes", CANTIVOREX_LONG, CANTIVOREX_LONG, 64, 1, 2, 0, 0, 0, 0, 0, make_long},
+    {"an empty trace", CANTIVOREX_VERSION, 0, 64, 1, 2, 0, 0, 0, 0, 0, make_empty},
+    {"a byte after the model", CANTIVOREX_SHAPE, CANTIVOREX_SHAPE, 1790, 16, 2, 0, 0, 0, 0, 0, leave_a_byte},
+    {"4,097 facts", CANTIVOREX_COUNT, CANTIVOREX_COUNT, 64, 1, 2, 0, 0, 0, 0, 0, take_a_fact_more},
+    {"1,025 steps", CANTIVOREX_COUNT, 0, 64, 1, 1025, 0, 0, 0, 0, 0, NULL},
+    {"fact 4,096 at the end", CANTIVOREX_FACT, CANTIVOREX_FACT, 1790, 16, 2, 0, 0, 0, 0, 0, end_with_fact_4096},
+    {"fact 0 at the end", CANTIVOREX_ORDER, CANTIVOREX_ORDER, 1790, 16, 2, 0, 0, 0, 0, 0, end_with_fact_0},
+    {"rule 3 in the last step", CANTIVOREX_NAME, 0, 64, 1, 1024, 3, 0, 0, 0, 0, NULL},
+    {"goal 3", CANTIVOREX_NAME, 0, 64, 1, 1024, 0, 3, 0, 0, 0, NULL},
+    {"4,096 persistent facts", CANTIVOREX_ATTACK, 0, 64, 1, 1024, 0, 0, 4096, 0, 0, NULL},
+    {".. and 1,500 bodies of 16 facts", CANTIVOREX_BLOCKED, 0, 1500, 16, 2, 1, 0, 4096, 0, 0, NULL},
+    {"persistent fact 4,096", CANTIVOREX_FACT, CANTIVOREX_FACT, 64, 1, 2, 0, 0, 4097, 0, 0, NULL},
+    {"991 names in use, 32 made", CANTIVOREX_ATTACK, 0, 64, 1, 1024, 3, 0, 4096, 991, 0, NULL},
+    {"1,024 names in use", CANTIVOREX_USED, 0, 64, 1, 1024, 3, 0, 4096, 1024, 0, NULL},
+    {".. and 1,400 bodies of 16 facts", CANTIVOREX_USED, 0, 1400, 16, 2, 3, 0, 4096, 1024, 0, NULL},
+    {"name 1,024 in use", CANTIVOREX_BADNAME, CANTIVOREX_BADNAME, 64, 1, 2, 0, 0, 0, 1025, 0, NULL},
+    {"a formula of 255 codes", CANTIVOREX_NOATTACK, 0, 64, 1, 1024, 0, 3, 0, 0, TREE, NULL},
+    {".. with names and 1,400 bodies", CANTIVOREX_NOATTACK, 0, 1400, 16, 2, 0, 3, 4096, 1024, TREE, NULL},
+    {"a formula 32 deep", CANTIVOREX_ATTACK, 0, 64, 1, 1024, 0, 3, 0, 0, 32, NULL},
+    {"a formula 33 deep", CANTIVOREX_FORMULA, CANTIVOREX_FORMULA, 64, 1, 2, 0, 3, 0, 0, 33, NULL},
+    {"goal 4, after a formula", CANTIVOREX_NAME, 0, 64, 1, 2, 0, 4, 0, 0, 32, NULL},
 };
 
 static uint8_t answer;

@@ -23,17 +23,18 @@ enum {
     CANTIVOREX_ATTACK = 0,    /* accepted */
     CANTIVOREX_ROOM = 1,      /* a buffer is too short; state, table and names stay */
     CANTIVOREX_LONG = 2,      /* a file is over its size: 65,536 bytes for a model, 4,096 for a trace */
-    CANTIVOREX_VERSION = 3,   /* a file is empty, or its first byte is no version: 1, 2 or 3 of a model, 1 of a trace */
+    CANTIVOREX_VERSION = 3,   /* a file is empty, or its first byte is no version: 1 to 4 of a model, 1 of a trace */
     CANTIVOREX_SHAPE = 4,     /* a length or count does not fit, something is too short, bytes are left over */
     CANTIVOREX_COUNT = 5,     /* a bound is passed */
     CANTIVOREX_FACT = 6,      /* a fact number of F or more */
     CANTIVOREX_ORDER = 7,     /* a list is not strictly ascending */
     CANTIVOREX_NEGATED = 8,   /* never given: a clause's head may stand in an N */
-    CANTIVOREX_NAME = 9,      /* the trace names an attack state or a rule that the model lacks */
+    CANTIVOREX_NAME = 9,      /* the trace names a goal or a rule that the model lacks */
     CANTIVOREX_BLOCKED = 10,  /* a step's rule cannot fire, for one of its conditions */
     CANTIVOREX_NOATTACK = 11, /* all steps fire, and the goal is not met */
     CANTIVOREX_BADNAME = 12,  /* a name over 1,023 */
-    CANTIVOREX_USED = 13      /* a step's conditions are met, and a name that its rule makes is used */
+    CANTIVOREX_USED = 13,     /* a step's conditions are met, and a name that its rule makes is used */
+    CANTIVOREX_FORMULA = 17   /* a formula's codes are not one formula of at most 32 deep */
 };
 
 /* What the buffers need at least. */
@@ -64,10 +65,10 @@ enum {
     CANTIVOREX_HAS_FACTS = 0, /* F: its facts are the numbers below it */
     CANTIVOREX_HAS_CLAUSES = 1,
     CANTIVOREX_HAS_RULES = 2,
-    CANTIVOREX_HAS_GOALS = 3 /* its attack states */
+    CANTIVOREX_HAS_GOALS = 3 /* its attack states and formulas together: a goal is a number below it */
 };
 
-/* Which condition is not met: none for any number but 10 and 11. */
+/* Which condition is not met: none for any number but 10 and 11, and for 11 none where the goal is a formula. */
 enum {
     CANTIVOREX_KIND_NONE = 0,
     CANTIVOREX_KIND_POSITIVE = 1, /* a fact of P is not in the closure */
@@ -77,8 +78,10 @@ enum {
 /* No fact and no round in a verdict, no round in a table. */
 #define CANTIVOREX_NONE 65535
 
-/* The verdict on a model and a trace: answers its number and writes its ten values to the front of `out`.
- * For 1 to 9 and 12 state, table and names stay as they were. For 0, 10, 11 and 13 the first 512 bytes of `state` hold
+/* The verdict on a model and a trace: answers its number and writes its ten values to the front of `out`. The goals are
+ * the attack states and, from version 4 on, then the formulas: one is met where it is false in the last state, and 11 for
+ * one that is true has no fact, no kind and no round, the bytes being its record's with the length.
+ * For 1 to 9, 12 and 17 state, table and names stay as they were. For 0, 10, 11 and 13 the first 512 bytes of `state` hold
  * the facts of the last state reached (fact f is the bit of value 2^(f mod 8) in byte f/8), the first 4,096 entries of
  * `table` its round numbers, and the first 128 bytes of `names` the names used by then, laid out like the facts.
  * Versions 1 and 2 of a model have no names: all three buffers are needed all the same, and no name is used at the end.
@@ -88,14 +91,13 @@ uint8_t cantivorex_check(const uint8_t *model, size_t model_len, const uint8_t *
     uint64_t *out, size_t out_len);
 
 /* Closing by itself, from the state lent: answers 0 and writes the number of rounds to out[0] and the round numbers to
- * the first 4,096 entries of `table`. Otherwise it answers 1 to 7 or 12 for what it is lent, or 6 for a state with a
+ * the first 4,096 entries of `table`. Otherwise it answers 1 to 7, 12 or 17 for what it is lent, or 6 for a state with a
  * fact of F or more, and changes nothing. It looks at no names. With an `out` of no entries the answer is 1. */
 uint8_t cantivorex_close(const uint8_t *model, size_t model_len, const uint8_t *state, size_t state_len,
     uint16_t *table, size_t table_len, uint64_t *out, size_t out_len);
 
-/* What a model has: answers 0 and writes how many facts, clauses, rules and attack states to the front of `out`.
- * Otherwise it answers 2 to 7 or 12 for the model and changes nothing. With an `out` of fewer than 4 entries the answer
- * is 1. */
+/* What a model has: answers 0 and writes how many facts, clauses, rules and goals to the front of `out`. Otherwise it
+ * answers 2 to 7, 12 or 17 for the model and changes nothing. With an `out` of fewer than 4 entries the answer is 1. */
 uint8_t cantivorex_count(const uint8_t *model, size_t model_len, uint64_t *out, size_t out_len);
 
 /* The bytes at a place of the file marked (0 the model, 1 the trace), as far as the file has them; for any other mark

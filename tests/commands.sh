@@ -81,11 +81,11 @@ test_long() {
 
 test_version() {
     told VERSION 'model before byte 0' \
-        'the file is empty: a model starts with the version, 1, 2 or 3' ''
+        'the file is empty: a model starts with the version, 1, 2, 3 or 4' ''
     told VERSION 'model byte 0 (07)' \
-        'the version: a model starts with 01, 02 or 03' 07
-    told VERSION 'model byte 0 (04)' \
-        'the version: a model starts with 01, 02 or 03' "04${fine:2}"
+        'the version: a model starts with 01, 02, 03 or 04' 07
+    told VERSION 'model byte 0 (05)' \
+        'the version: a model starts with 01, 02, 03 or 04' "05${fine:2}"
     told VERSION 'trace before byte 0' \
         'the file is empty: a trace starts with the version, 1' "$fine" ''
     told VERSION 'trace byte 0 (02)' \
@@ -300,6 +300,64 @@ test_names_made() {
         "$rule: its lists end 2 bytes before it does" "$head_part $clauses 0000000A 0008 0000 0000 0000 0000 $goals"
 }
 
+# Version 4, the desk model without persistent facts and names: the last section has its length at 115 and its records
+# from 119 on.
+test_formula_records() {
+    local before="04${head_part:2} 00000000 00000000 $clauses $rules_3 $goals" section='section formulas'
+    local formula="$section, formula 0"
+    told SHAPE 'model before byte 115' \
+        "$section: its length of 4 bytes was expected, the file has 0 bytes more" "$before"
+    told SHAPE 'model bytes 115 to 122 (00 00 01 00 00 02 00 05)' \
+        "$section: its length says 256 bytes, the file has 4 bytes more" "$before 00000100 0002 0005"
+    told SHAPE 'model bytes 119 to 122 (00 04 00 00)' \
+        "$formula: its length says 4 bytes, its section has 2 bytes more" "$before 00000004 0004 0000"
+    told SHAPE 'model bytes 119 to 123 (00 03 80 00 00)' \
+        "$formula: it has 3 bytes, 2 for each code were expected" "$before 00000005 0003 800000"
+    told SHAPE 'model byte 119 (ab)' \
+        'after the last section, which ends at byte 119: nothing was expected' "$before 00000000 ab"
+    told COUNT 'model bytes 119 to 632 (02 00 80 00 80 00 80 00 80 00 80 00 80 00 80 00 ..)' \
+        "$formula: its list of codes has 256 codes, and at most 255 are allowed" \
+        "$before 00000202 0200 $(repeat 255 8000) 0006"
+    told COUNT 'model bytes 375 to 378 (00 02 00 00)' \
+        "$section, formula 64: a model has at most 64 of them" "$before 00000104 $(repeat 65 00020000)"
+    told FACT 'model bytes 119 to 126 (00 06 80 01 00 05 00 06)' \
+        "$formula: fact 6 stands in its list of codes, and the model has facts 0 to 5" \
+        "$before 00000008 0006 8001 0005 0006"
+    # FACT comes before FORMULA, and looks behind the formula's end.
+    told FACT 'model bytes 119 to 124 (00 04 00 00 7f ff)' \
+        "$formula: fact 32767 stands in its list of codes, and the model has facts 0 to 5" \
+        "$before 00000006 0004 0000 7FFF"
+    told FORMULA 'model bytes 119 to 120 (00 00)' \
+        "$formula: it ends where code 0 was expected: its formula is unfinished" "$before 00000002 0000"
+    told FORMULA 'model bytes 123 to 128 (00 04 80 01 00 05)' \
+        "$section, formula 1: it ends where code 2 was expected: its formula is unfinished" \
+        "$before 0000000A 0002 0005 0004 8001 0005"
+    told FORMULA 'model bytes 119 to 124 (00 04 80 00 80 08)' \
+        "$formula: code 1 is 32776, and a code is at most 32775" "$before 00000006 0004 8000 8008"
+    told FORMULA 'model bytes 119 to 126 (00 06 80 00 00 05 00 05)' \
+        "$formula: its formula ends with code 1, and it has 1 code more" "$before 00000008 0006 8000 0005 0005"
+    told FORMULA 'model bytes 119 to 186 (00 42 80 00 80 00 80 00 80 00 80 00 80 00 80 00 ..)' \
+        "$formula: code 32 stands 33 deep, and at most 32 is allowed" "$before 00000044 0042 $(repeat 32 8000) 0000"
+    told NAME 'trace bytes 5 to 6 (00 03)' \
+        'the goal: it names goal 3, and the model has goals 0 to 2' "$before 00000004 0002 0000" '01 00000002 0003'
+    # 31 times `not` over a fact that is there: 32 deep, and false.
+    bytes "$before 00000042 0040 $(repeat 31 8000) 0000" >"$tmp/m.model"
+    bytes '01 00000002 0002' >"$tmp/t.trace"
+    try "$tmp/m.model" "$tmp/t.trace"
+    same 'a formula 32 deep' 'ATTACK step 0 fact none rounds 2 held 3 kind none round none' "$out$err"
+    bytes "$before 00000000" >"$tmp/m.model"
+    try "$tmp/m.model" "$root/samples/A.trace"
+    same 'no formula at all' 'ATTACK step 1 fact none rounds 4 held 4 kind none round none' "$out$err"
+    try show "$tmp/m.model"
+    same 'no formula as text' 'formulas: 0' "${out##*$'\n'}"
+    bytes "$before 00000002 0000" >"$tmp/m.model"
+    try --exit-verdict "$tmp/m.model" "$root/samples/A.trace"
+    same 'the verdict as exit, FORMULA' 17 "$status"
+    try "$desk" "$root/samples/past/form.model"
+    has 'a model of version 4 for a trace' \
+        'byte 0 (04), the version: a trace starts with 01 (it was given a model for the trace)' "$err"
+}
+
 test_usage() {
     try
     says 'no words' 2 'usage: cantivorex MODEL TRACE'
@@ -468,7 +526,7 @@ BLOCKED step 1 fact 3 rounds 4 held 4 kind negative round 0" "$out"
     bytes "01 00000002 0064 00000000 00000000 00000000 00000000" >"$tmp/m.model"
     try count "$tmp/m.model"
     same 'a model without a goal' "model '$tmp/m.model': 100 facts, 0 clauses, 0 rules, 0 attack states
-it has no attack state, so that no trace can be checked with it" "$out"
+it has no goal, so that no trace can be checked with it" "$out"
     # The trace's version is told before the model's missing sections; a model that is refused has no figures.
     bytes "01 00000002 0064 00" >"$tmp/m.model"
     bytes "02 00000004 0000 0000" >"$tmp/t.trace"
@@ -683,6 +741,100 @@ refused: one: BADNAME: the model '$tmp/bad/one.model', bytes 27 to 30 (04 00 00 
         )name 1024 stands in its list, and a name is at most 1023" "$out"
 }
 
+# What no attack state can say: the same two steps in either order, with the same last state.
+test_past() {
+    local folder=$root/samples/past lines text
+    lines="NOATTACK step 3 fact none rounds 1 held 1 kind none round none            closed-again
+ATTACK step 4 fact none rounds 3 held 2 kind none round none              closed-since
+NOATTACK step 2 fact none rounds 1 held 2 kind none round none            opened-first
+ATTACK step 2 fact none rounds 2 held 2 kind none round none              signed-first
+NOATTACK step 2 fact none rounds 1 held 2 kind none round none            stayed-open"
+    try night "$folder" --model "$folder/form.model"
+    same 'the verdicts on the form' \
+        "$lines"$'\n'"5 traces with $folder/form.model: ATTACK 2, NOATTACK 3; 0 not read" "$out"
+    try night "$folder" --model "$folder/form.model" --limit 60
+    same 'and within a limit' "$lines" "$(head -n 5 <<<"$out")"
+    try night "$folder" --model "$folder/form.model" --tsv
+    same 'a row for a formula that is true' 'opened-first NOATTACK 2 none 1 2 none none model 115 12' \
+        "$(grep ^opened <<<"$out" | cut -f 1-11 | tr '\t' ' ')"
+    text='Historically (signed implies Once opened)'
+    local before='goal 1 nobody signed before the form was opened'
+    try show "$folder/form.model"
+    same 'version 4 as text' "attack states: 1
+  goal 0 open and signed: needs 0 opened, 3 signed
+formulas: 2
+  $before: $text
+  goal 2 the form stayed open since it was signed: not signed or (opened Since (signed and not Yesterday signed))" \
+        "$(tail -n 5 <<<"$out")"
+    try count "$folder/form.model" "$folder/signed-first.trace"
+    same 'counting version 4' "model '$folder/form.model': 4 facts, 2 clauses, 4 rules, 1 attack state, 2 formulas
+persistent facts: none
+$before: $text
+state 0, the initial one: 0 stored, 0 reached by closing in 0 rounds, 4 not reached, 0 names in use
+  stored:      none
+  reached:     none
+  not reached: 0 opened, 1 signed(ana), 2 signed(ben), 3 signed
+  in use:      none
+  goal 1:      true
+state 1, after step 0, rule 2 sign(ana): 1 stored, 1 reached by closing in 1 round, 2 not reached, 0 names in use
+  stored:      1 signed(ana)
+  reached:     3 signed (round 1)
+  not reached: 0 opened, 2 signed(ben)
+  made:        none
+  in use:      none
+  goal 1:      false
+state 2, after step 1, rule 0 open: 2 stored, 1 reached by closing in 1 round, 1 not reached, 0 names in use
+  stored:      0 opened, 1 signed(ana)
+  reached:     3 signed (round 1)
+  not reached: 2 signed(ben)
+  made:        none
+  in use:      none
+  goal 1:      false
+ATTACK: all 2 steps fire, and the formula of $before is false in state 2: $text
+ATTACK step 2 fact none rounds 2 held 2 kind none round none" "$out$err"
+    try count "$folder/form.model" "$folder/opened-first.trace"
+    same 'a formula that stays true' 'true true true' "$(grep 'goal 1: ' <<<"$out" | grep -o '[a-z]*$' | xargs)"
+    same 'how it ends' "NOATTACK: all 2 steps fire, but the formula of $before is true in state 2: $text" \
+        "$(tail -n 2 <<<"$out" | head -n 1)"
+    try count "$folder/form.model" "$folder/closed-since.trace" --formulas
+    same 'all formulas in each state' "  goal 1:      true
+  goal 2:      true
+  goal 1:      true
+  goal 2:      true
+  goal 1:      true
+  goal 2:      true
+  goal 1:      true
+  goal 2:      false
+  goal 1:      true
+  goal 2:      false" "$(grep '^  goal' <<<"$out")"
+    same 'and each with its words, once' 2 "$(grep -c '^goal [12] ' <<<"$out")"
+    try count "$folder/form.model"
+    same 'without a trace no formula is asked for' '' "$(grep 'goal' <<<"$out")"
+    try count --formulas "$folder/form.model"
+    same 'unless all are' "  goal 1:      true"$'\n'"  goal 2:      true" "$(grep '^  goal' <<<"$out")"
+    bytes '01 00000006 0000 0002 0000' >"$tmp/t.trace"
+    try count "$folder/form.model" "$tmp/t.trace"
+    same 'an attack state has no value' '' "$(grep '^  goal' <<<"$out")"
+    same 'an attack state of version 4' 'ATTACK: all 2 steps fire, and goal 0 open and signed is met in state 2' \
+        "$(tail -n 2 <<<"$out" | head -n 1)"
+    bytes '01 00000006 0001 0002 0001' >"$tmp/t.trace"
+    try count "$folder/form.model" "$tmp/t.trace"
+    same 'a blocked trace: the states reached' $'  goal 1:      true\n  goal 1:      false' "$(grep '^  goal' <<<"$out")"
+    same 'a blocked trace: its end' 'BLOCKED step 1 fact 0 rounds 1 held 1 kind positive round none' \
+        "${out##*$'\n'}"
+    try count "$desk" "$root/samples/A.trace" --formulas
+    same 'a model without formulas' "$("$command" count "$desk" "$root/samples/A.trace")" "$out"
+    # A formula and no attack state, and names that need quotes or say nothing.
+    bytes "04 00000002 0004 00000000 00000000 00000000 00000000 00000000 00000000
+        0000000E 000C 8001 0000 8002 0001 8000 0002" >"$tmp/n.model"
+    printf 'fact 0 the form is open\nfact 1 x\nfact 2 x\nfact 3 Since\n' >"$tmp/n.names"
+    try show "$tmp/n.model"
+    same 'names in a formula' "  goal 0: 'the form is open' and (1 or not 2)" "${out##*$'\n'}"
+    try count "$tmp/n.model" --formulas
+    same 'a formula and no attack state' '  goal 0:      false' "${out##*$'\n'}"
+    rm "$tmp/n.names"
+}
+
 # unfit LABEL REASON LINES [MODEL TEXT]: a names file that doesn't fit is told, and the numbers stand alone.
 unfit() {
     cp "${4-$desk}" "$tmp/n.model"
@@ -708,8 +860,8 @@ test_names() {
     unfit 'a name twice' 'line 2: name 3 has a name already, x' 'name 3 x\nname 3 x\n' "${fresh[@]}"
     unfit 'a name over 1,023' 'line 2: the model has no name 1024: a name is at most 1023' \
         'name 1023 x\nname 1024 y\n' "${fresh[@]}"
-    unfit 'a name in version 1' 'line 1: the model has no name 0: only version 3 has names' 'name 0 x\n'
-    unfit 'a name in version 2' 'line 2: the model has no name 0: only version 3 has names' \
+    unfit 'a name in version 1' 'line 1: the model has no name 0: there are names from version 3 on' 'name 0 x\n'
+    unfit 'a name in version 2' 'line 2: the model has no name 0: there are names from version 3 on' \
         'fact 0 x\nname 0 x\n' "$root/samples/mandate/persistent.model" 'clause 0: 1 from 0'
     cp "$desk" "$tmp/n.model"
     printf 'fact 0 some clerk\r\n\n# no more\n' >"$tmp/n.names"
@@ -1000,6 +1152,7 @@ test_name
 test_persistent
 test_names_in_use
 test_names_made
+test_formula_records
 test_usage
 test_help
 test_exit_verdict
@@ -1011,6 +1164,7 @@ test_tasks
 test_mandate
 test_fresh_names
 test_table2_fresh
+test_past
 test_names
 test_night
 test_gaps

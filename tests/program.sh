@@ -55,7 +55,7 @@ fresh() {
     same "Table 2 with names, $1" "$2" "$(line_of "$folder/fresh.model" "$folder/$1.trace")"
 }
 
-# Version 3: a rule fires only if the names that it makes are unused. Version 4 there isn't.
+# Version 3: a rule fires only if the names that it makes are unused.
 test_version_3() {
     fresh a-moves-twice 'ATTACK step 2 fact none rounds 3 held 4 kind none round none'
     fresh a-moves 'NOATTACK step 1 fact 20 rounds 2 held 4 kind positive round none'
@@ -63,11 +63,31 @@ test_version_3() {
     fresh b-makes-it-too 'USED step 1 fact 2 rounds 2 held 4 kind none round none'
     fresh not-fresh 'USED step 0 fact 1 rounds 1 held 4 kind none round none'
     local folder=$root/samples/table2-fresh
-    { bytes 04; tail -c +2 "$folder/fresh.model"; } >"$tmp/four.model"
-    same 'version 4 of a model' "$(refused VERSION)" "$(line_of "$tmp/four.model" "$folder/a-moves.trace")"
     # The clause of version 2, 0004 0001 0000, is taken for three names.
     { bytes 03; tail -c +2 "$root/samples/mandate/persistent.model"; } >"$tmp/three.model"
     same 'version 3 without its section' "$(refused ORDER)" "$(line_of "$tmp/three.model" "$folder/a-moves.trace")"
+}
+
+# past TRACE LINE: the form, with formulas.
+past() {
+    local folder=$root/samples/past
+    same "the form, $1" "$2" "$(line_of "$folder/form.model" "$folder/$1.trace")"
+}
+
+# Version 4: a goal may be a formula about the past. Version 5 there isn't.
+test_version_4() {
+    past signed-first 'ATTACK step 2 fact none rounds 2 held 2 kind none round none'
+    past opened-first 'NOATTACK step 2 fact none rounds 1 held 2 kind none round none'
+    past closed-again 'NOATTACK step 3 fact none rounds 1 held 1 kind none round none'
+    past stayed-open 'NOATTACK step 2 fact none rounds 1 held 2 kind none round none'
+    past closed-since 'ATTACK step 4 fact none rounds 3 held 2 kind none round none'
+    local folder=$root/samples/past
+    bytes '01 00000002 0003' >"$tmp/three.trace"
+    same 'a goal beyond the formulas' "$(refused NAME)" "$(line_of "$folder/form.model" "$tmp/three.trace")"
+    { bytes 04; tail -c +2 "$root/samples/table2-fresh/fresh.model"; } >"$tmp/four.model"
+    same 'version 4 without its section' "$(refused SHAPE)" "$(line_of "$tmp/four.model" "$folder/opened-first.trace")"
+    { bytes 05; tail -c +2 "$folder/form.model"; } >"$tmp/five.model"
+    same 'version 5 of a model' "$(refused VERSION)" "$(line_of "$tmp/five.model" "$folder/opened-first.trace")"
 }
 
 # small NAME MODEL LINE: a model without rules, and a trace that asks for attack state 0 without steps.
@@ -101,6 +121,8 @@ test_names() {
     small 'BADNAME, 1,024 in use' '03 00000002 0000  00000000  00000000  00000002 0400' "$(refused BADNAME)"
     small 'BADNAME, 1,024 made by a rule' '03 00000002 0000  00000000  00000000  00000002 03FF  00000000
         0000000C 000A 0000 0000 0000 0001 0400' "$(refused BADNAME)"
+    small 'FORMULA, `not` and nothing behind it' '04 00000002 0000  00000000  00000000  00000000  00000000  00000000
+        00000000  00000004 0002 8000' "$(refused FORMULA)"
 }
 
 test_missing_files() {
@@ -220,6 +242,7 @@ test_sizes() {
 test_samples
 test_version_2
 test_version_3
+test_version_4
 test_small_models
 test_names
 test_missing_files

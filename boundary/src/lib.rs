@@ -14,10 +14,10 @@ pub const FIGURES: usize = 4;
 /// No fact and no round in a verdict, no round in a table.
 pub const NONE: usize = 65_535;
 
-/// By number; NEGATED is never given.
-pub const NAMES: [&str; 14] = [
+/// By number; NEGATED is never given, nor is any without a name.
+pub const NAMES: [&str; 18] = [
     "ATTACK", "ROOM", "LONG", "VERSION", "SHAPE", "COUNT", "FACT", "ORDER", "NEGATED", "NAME",
-    "BLOCKED", "NOATTACK", "BADNAME", "USED",
+    "BLOCKED", "NOATTACK", "BADNAME", "USED", "", "", "", "FORMULA",
 ];
 
 /// Which condition is not met: one of P that is not in the closure, or one of N that is.
@@ -80,7 +80,7 @@ extern "C" {
 pub struct Verdict {
     pub number: u8,
     pub step: usize,
-    /// The first unmet condition; for USED a name.
+    /// The first unmet condition, for USED a name; none where the goal is a formula.
     pub fact: usize,
     pub rounds: usize,
     pub held: usize,
@@ -188,7 +188,7 @@ pub fn close_into(model: &[u8], state: &[u8], table: &mut [u16], out: &mut [u64]
     }
 }
 
-/// What a model has: how many facts, clauses, rules and attack states.
+/// What a model has: how many facts, clauses, rules and goals, its attack states and formulas together.
 #[derive(Clone, Copy, Debug, PartialEq, Eq)]
 pub struct Counts {
     pub facts: usize,

@@ -20,9 +20,9 @@ which file is at fault, which bytes, in which section or record, and what was
 expected. How any other trace ends `cantivorex count` says in words.
 
   --exit-verdict  the exit is the verdict's number: 0 ATTACK, 10 BLOCKED,
-                  11 NOATTACK, 13 USED, 9 NAME, 12 BADNAME, and 2 to 7 for
-                  LONG to ORDER; what is 1 or 2 without this option is then
-                  101 or 102
+                  11 NOATTACK, 13 USED, 9 NAME, 12 BADNAME, 17 FORMULA, and
+                  2 to 7 for LONG to ORDER; what is 1 or 2 without this
+                  option is then 101 or 102
 
 MODEL or TRACE may be - for standard input. A file whose name starts with a
 dash stands after --.

@@ -1,25 +1,39 @@
-//! How a run ends, in words: which condition, of which rule or goal, is missing or in the way, or which name is in use.
+//! How a run ends, in words: which condition, of which rule or goal, is missing or in the way, which name is in use, or
+//! whether the goal's formula is true.
 
+use crate::formulas::Formula;
 use crate::judge;
 use crate::names::Names;
 use crate::output::counted;
 use library::{Kind, Verdict};
 
-/// For a pair that isn't refused; `goal` and `steps` are the trace's.
-pub fn ending(verdict: &Verdict, goal: usize, steps: &[usize], names: &Names) -> String {
+/// For a pair that isn't refused; `goal` and `steps` are the trace's, `formula` the goal's, if it is one.
+pub fn ending(
+    verdict: &Verdict,
+    goal: usize,
+    formula: Option<&Formula>,
+    steps: &[usize],
+    names: &Names,
+) -> String {
     let (goal, step) = (names.goal(goal), verdict.step);
     let fired = match steps.len() {
         0 => "there are no steps".to_string(),
         1 => "the only step fires".to_string(),
         n => format!("all {} fire", counted(n, "step")),
     };
-    let found = match verdict.number {
-        0 => format!("{fired}, and goal {goal} is met in state {step}"),
-        10 => format!("{}: {}", stopped(step, steps, names), unmet(verdict, names)),
-        13 => {
+    let found = match (verdict.number, formula) {
+        (10, _) => format!("{}: {}", stopped(step, steps, names), unmet(verdict, names)),
+        (13, _) => {
             format!("{}: name {} is in use", stopped(step, steps, names), names.name(verdict.fact))
         }
-        _ => {
+        // A false formula is an attack state met.
+        (number, Some(formula)) => {
+            let (then, value) = if number == 0 { ("and", "false") } else { ("but", "true") };
+            let text = formula.text(names);
+            format!("{fired}, {then} the formula of goal {goal} is {value} in state {step}: {text}")
+        }
+        (0, None) => format!("{fired}, and goal {goal} is met in state {step}"),
+        (_, None) => {
             format!(
                 "{fired}, but goal {goal} is not met in state {step}: {}",
                 unmet(verdict, names)

@@ -1,6 +1,7 @@
 //! The one place where the library is asked: a check in buffers of its own, with what it leaves in them, and what a
 //! model has.
 
+use crate::layout;
 pub use library::Counts;
 use library::{Verdict, NAMES_BYTES, NONE, STATE_BYTES, TABLE_ENTRIES};
 
@@ -56,6 +57,20 @@ pub fn counts(model: &[u8]) -> Option<Counts> {
     library::count(model).ok()
 }
 
+/// Whether a goal's formula is true after these steps; none where the goal is no formula, or a step doesn't fire.
+pub fn truth(model: &[u8], goal: usize, steps: &[usize]) -> Option<bool> {
+    truth_of(&check(model, &layout::trace(goal, steps)).verdict)
+}
+
+/// The same by the verdict on them: ATTACK exactly if the formula is false.
+pub fn truth_of(verdict: &Verdict) -> Option<bool> {
+    match verdict.number {
+        0 => Some(false),
+        11 => Some(true),
+        _ => None,
+    }
+}
+
 /// Whether a file has the section of a trace, by a model that can't be at fault itself.
 pub fn is_trace(file: &[u8]) -> bool {
     let verdict = check(&LEAST, file).verdict;
@@ -67,9 +82,9 @@ pub fn is_refusal(verdict: &Verdict) -> bool {
     !matches!(verdict.number, 0 | 10 | 11 | 13)
 }
 
-/// The names of the verdicts that there are; number 8 is never given.
+/// The names of the verdicts that there are; number 8 is never given, and some have no name.
 pub fn names() -> impl Iterator<Item = &'static str> {
-    library::NAMES.into_iter().filter(|name| *name != "NEGATED")
+    library::NAMES.into_iter().filter(|name| !matches!(*name, "" | "NEGATED"))
 }
 
 pub fn name(verdict: &Verdict) -> &'static str {
@@ -79,7 +94,7 @@ pub fn name(verdict: &Verdict) -> &'static str {
 #[cfg(test)]
 mod tests {
     use super::*;
-    use crate::layout::{self, Model};
+    use crate::layout::Model;
     use std::collections::BTreeSet;
 
     /// What is shown of the states of a run fits its verdict: the rounds add up, and the last state is held.
@@ -100,7 +115,7 @@ mod tests {
         }
     }
 
-    /// The names in use are those at the start and those that the steps made; no version but 3 has any.
+    /// The names in use are those at the start and those that the steps made; versions 1 and 2 have none.
     #[test]
     fn the_steps_make_the_names_in_use() {
         let mut made = 0;

@@ -2,6 +2,7 @@
 //! follows it as far as its lengths go. A later version of a file is one more list of roles, a later section one
 //! more role.
 
+use crate::formulas::{self, Formula};
 use crate::output::counted;
 use Role::*;
 
@@ -16,6 +17,7 @@ pub enum Role {
     /// With a fourth list, the names that a rule makes.
     MakingRules,
     Goals,
+    Formulas,
     Trace,
 }
 
@@ -26,6 +28,7 @@ pub const MODEL: Versions = &[
     &[Sizes, Initial, Clauses, Rules, Goals],
     &[Sizes, Initial, Persistent, Clauses, Rules, Goals],
     &[Sizes, Initial, Persistent, InUse, Clauses, MakingRules, Goals],
+    &[Sizes, Initial, Persistent, InUse, Clauses, MakingRules, Goals, Formulas],
 ];
 pub const TRACE: Versions = &[&[Trace]];
 
@@ -50,6 +53,7 @@ impl Role {
             Clauses => "clauses",
             Rules | MakingRules => "rules",
             Goals => "attack states",
+            Formulas => "formulas",
             Trace => "goal and steps",
         }
     }
@@ -60,6 +64,7 @@ impl Role {
             Clauses => Some(Kind { word: "clause", most: 4_096 }),
             Rules | MakingRules => Some(Kind { word: "rule", most: 2_048 }),
             Goals => Some(Kind { word: "goal", most: 64 }),
+            Formulas => Some(Kind { word: "formula", most: 64 }),
             Sizes | Initial | Persistent | InUse | Trace => None,
         }
     }
@@ -70,6 +75,8 @@ impl Role {
 pub enum Of {
     Facts,
     Names,
+    /// Of a formula: facts and operators.
+    Codes,
     /// Sizes and traces, which are told in words of their own.
     Others,
 }
@@ -80,6 +87,7 @@ impl Of {
         match self {
             Of::Facts => "fact",
             Of::Names => "name",
+            Of::Codes => "code",
             Of::Others => "number",
         }
     }
@@ -97,6 +105,13 @@ impl List {
     fn new(word: &'static str, of: Of, most: usize, bytes: &[u8]) -> List {
         let numbers = bytes.chunks_exact(2).map(number).collect();
         List { word, of, most, numbers }
+    }
+
+    /// Those of its numbers that are facts, or names; some codes are facts.
+    pub fn all(&self, of: Of) -> impl Iterator<Item = usize> + '_ {
+        let has_facts = (self.of, of) == (Of::Codes, Of::Facts);
+        let is_one = move |number| self.of == of || has_facts && formulas::is_fact(number);
+        self.numbers.iter().copied().filter(move |number| is_one(*number))
     }
 }
 
@@ -143,6 +158,10 @@ pub fn lists(role: Role, bytes: &[u8]) -> Result<Vec<List>, String> {
         Rules => counted_lists(&[P, N, A], bytes),
         MakingRules => counted_lists(&[P, N, A, MADE], bytes),
         Goals => counted_lists(&[P, N], bytes),
+        Formulas => {
+            fits(size.is_multiple_of(2), "2 for each code were expected")?;
+            Ok(vec![List::new("list of codes", Of::Codes, 255, bytes)])
+        }
     }
 }
 
@@ -250,15 +269,18 @@ pub struct Model {
     pub in_use: Option<Vec<usize>>,
     pub clauses: Vec<Vec<List>>,
     pub rules: Vec<Vec<List>>,
+    /// The attack states; the formulas' goal numbers run on from theirs.
     pub goals: Vec<Vec<List>>,
+    pub formulas: Option<Vec<Formula>>,
 }
 
 impl Model {
     pub fn read(file: &[u8]) -> Model {
         let mut model = Model::default();
         for (role, section) in sections(file, MODEL) {
-            let cut =
-                || records(&section).iter().map_while(|r| lists(role, r.bytes).ok()).collect();
+            let cut = || -> Vec<Vec<List>> {
+                records(&section).iter().map_while(|r| lists(role, r.bytes).ok()).collect()
+            };
             match role {
                 Initial => model.initial = numbers(role, &section),
                 Persistent => model.persistent = Some(numbers(role, &section)),
@@ -266,11 +288,26 @@ impl Model {
                 Clauses => model.clauses = cut(),
                 Rules | MakingRules => model.rules = cut(),
                 Goals => model.goals = cut(),
+                Formulas => model.formulas = Some(cut().iter().map_while(formula).collect()),
                 Sizes | Trace => {}
             }
         }
         model
     }
+
+    /// The goals that are formulas, by number.
+    pub fn formulas(&self) -> impl Iterator<Item = (usize, &Formula)> {
+        self.formulas.iter().flatten().enumerate().map(|(i, one)| (self.goals.len() + i, one))
+    }
+
+    /// The formula of a goal; none where it is an attack state.
+    pub fn formula(&self, goal: usize) -> Option<&Formula> {
+        self.formulas().find_map(|(number, one)| (number == goal).then_some(one))
+    }
+}
+
+fn formula(record: &Vec<List>) -> Option<Formula> {
+    Formula::read(&record[0].numbers).ok()
 }
 
 /// F as the sizes have it, if only they can be followed.
@@ -346,6 +383,9 @@ mod tests {
             assert_eq!(numbers(&ours.clauses), Vec::from_iter(theirs.clauses.iter().map(clause)));
             assert_eq!(numbers(&ours.rules), Vec::from_iter(theirs.rules.iter().map(rule)));
             assert_eq!(numbers(&ours.goals), Vec::from_iter(theirs.attacks.iter().map(goal)));
+            let codes = |all: &Vec<Formula>| Vec::from_iter(all.iter().map(Formula::codes));
+            let wanted = |all: &Vec<Vec<u16>>| Vec::from_iter(all.iter().map(|list| wide(list)));
+            assert_eq!(ours.formulas.as_ref().map(codes), theirs.formulas.as_ref().map(wanted));
         }
     }
 }

@@ -7,6 +7,7 @@ mod count;
 mod endings;
 mod failure;
 mod files;
+mod formulas;
 mod helper;
 mod identity;
 mod judge;

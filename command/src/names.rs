@@ -1,12 +1,13 @@
 //! Names beside numbers. `NAME.names` beside `NAME.model` has lines `fact 5 edits(ben)`, `rule 0 sign`, `goal 0 ..`,
-//! and `name 7 nonce1` for what a model's own names are called; empty lines and lines that start with # are passed
-//! over. A file that doesn't fit its model is told and not used.
+//! and `name 7 nonce1` for what a model's own names are called; the goals are its attack states and then its formulas.
+//! Empty lines and lines that start with # are passed over. A file that doesn't fit its model is told and not used.
 
 use crate::failure::Failure;
 use crate::files::read_plain;
+use crate::formulas::is_operator;
 use crate::judge;
 use crate::layout::{self, Of};
-use crate::output::{is_plain, quoted, tell};
+use crate::output::{is_plain, named, quoted, tell};
 use std::collections::HashMap;
 use std::ffi::OsStr;
 use std::path::Path;
@@ -62,7 +63,22 @@ impl Names {
         match of {
             Of::Facts => self.fact(number),
             Of::Names => self.name(number),
-            Of::Others => number.to_string(),
+            Of::Codes | Of::Others => number.to_string(),
+        }
+    }
+
+    /// A fact as a word of a formula: its name alone if that can be taken for nothing else there, or its number.
+    pub fn fact_alone(&self, number: usize) -> String {
+        let facts = &self.0[0];
+        let Some(name) = facts.get(&number) else { return number.to_string() };
+        let is_shared = facts.iter().any(|(other, called)| *other != number && called == name);
+        let is_number = name.bytes().all(|byte| byte.is_ascii_digit());
+        if is_shared {
+            number.to_string()
+        } else if is_number || is_operator(name) || !is_closed(name) {
+            quoted(name.as_ref())
+        } else {
+            named(name.as_ref())
         }
     }
 
@@ -111,10 +127,20 @@ fn add(names: &mut Names, line: &str, most: &Most) -> Result<(), String> {
     }
 }
 
+/// Whether no bracket of a name could belong to what stands around it.
+fn is_closed(name: &str) -> bool {
+    let open = name.chars().try_fold(0_usize, |open, c| match c {
+        '(' => Some(open + 1),
+        ')' => open.checked_sub(1),
+        _ => Some(open),
+    });
+    open == Some(0) && !name.starts_with('(')
+}
+
 /// How many names there are is no figure of the model, so that it is told.
 fn lacking(word: &str, number: usize, most: usize) -> String {
     let why = match (word, most) {
-        ("name", 0) => ": only version 3 has names".to_string(),
+        ("name", 0) => ": there are names from version 3 on".to_string(),
         ("name", _) => format!(": a name is at most {}", most - 1),
         _ => String::new(),
     };
@@ -129,4 +155,40 @@ fn split(line: &str) -> Option<(usize, usize, &str)> {
     let digits = words.next().filter(|digits| digits.bytes().all(|byte| byte.is_ascii_digit()))?;
     let name = words.next()?.trim();
     (!name.is_empty()).then_some((kind, digits.parse().ok()?, name))
+}
+
+#[cfg(test)]
+mod tests {
+    use super::*;
+
+    impl Names {
+        /// Facts from 0 on that are called so.
+        pub fn of_facts(called: &[&str]) -> Names {
+            let mut names = Names::default();
+            names.0[0] = called.iter().map(|name| name.to_string()).enumerate().collect();
+            names
+        }
+    }
+
+    /// No name passes for an operator, a bracket, a number or another fact.
+    #[test]
+    fn names_within_formulas() {
+        let called = ["signed(ana)", "p", "Since", "7", "a b", "p", "not)", "(x)", "x'", "and"];
+        let names = Names::of_facts(&called);
+        for (number, shown) in [
+            (0, "signed(ana)"),
+            (1, "1"),
+            (2, "'Since'"),
+            (3, "'7'"),
+            (4, "'a b'"),
+            (5, "5"),
+            (6, "'not)'"),
+            (7, "'(x)'"),
+            (8, "'x\\''"),
+            (9, "'and'"),
+            (10, "10"),
+        ] {
+            assert_eq!(names.fact_alone(number), shown);
+        }
+    }
 }

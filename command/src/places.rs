@@ -2,6 +2,7 @@
 //! The number and the bytes are the library's; the words follow the file to them.
 
 use crate::files::{Pair, MODEL_BYTES, TRACE_BYTES};
+use crate::formulas::Formula;
 use crate::judge;
 use crate::layout::{self, lists, records, sections, Kind, List, Of, Piece, Role, Versions};
 use crate::output::{counted, quoted};
@@ -102,7 +103,7 @@ impl Place<'_> {
         ))
     }
 
-    /// 4 to 7 and 12: the section first.
+    /// 4 to 7, 12 and 17: the section first.
     fn in_section(&self) -> Option<String> {
         let (_, _, file) = self.file();
         let all = sections(file, self.versions());
@@ -178,6 +179,7 @@ impl Place<'_> {
                 let most = layout::NAMES - 1;
                 Some(format!("name {name} stands in its {list}, and a name is at most {most}"))
             }
+            17 => Formula::read(&cut.first()?.numbers).err(),
             _ => None,
         }
     }
@@ -185,9 +187,9 @@ impl Place<'_> {
 
 /// The first of these numbers that isn't below the end, and how its list is called.
 fn beyond(cut: &[List], of: Of, end: usize) -> Option<(usize, &'static str)> {
-    cut.iter().filter(|list| list.of == of).find_map(|list| {
-        let number = list.numbers.iter().find(|number| **number >= end)?;
-        Some((*number, list.word))
+    cut.iter().find_map(|list| {
+        let number = list.all(of).find(|number| *number >= end)?;
+        Some((number, list.word))
     })
 }
 
@@ -247,17 +249,19 @@ fn numbered(word: &str, count: usize) -> String {
 mod tests {
     use super::*;
 
-    /// What versions 2 and 3 add, by its words, with the numbers that it is refused with.
-    const ADDED: [(&str, &[usize]); 3] = [
+    /// What versions 2 to 4 add, by its words, with the numbers that it is refused with.
+    const ADDED: [(&str, &[usize]); 4] = [
         ("section persistent facts: ", &[4, 6, 7]),
         ("section names in use: ", &[4, 7, 12]),
         (" its list of names", &[4, 5, 7, 12]),
+        ("section formulas, formula ", &[4, 5, 6, 17]),
     ];
 
     /// Every refusal of many damaged pairs is placed, and each number occurs, also in what later versions add.
     #[test]
     fn every_refusal_has_its_words() {
-        let (mut seen, mut added) = ([0; 14], [[0; 14]; ADDED.len()]);
+        let mut seen = [0; library::NAMES.len()];
+        let mut added = [seen; ADDED.len()];
         for index in 0..10_000 {
             let second::gen::Pair { model, trace, .. } = second::gen::damaged(5, index);
             let verdict = judge::check(&model, &trace).verdict;
@@ -272,7 +276,7 @@ mod tests {
                 }
             }
         }
-        let refusals = [2, 3, 4, 5, 6, 7, 9, 12].map(|number| seen[number]);
+        let refusals = [2, 3, 4, 5, 6, 7, 9, 12, 17].map(|number| seen[number]);
         assert!(refusals.iter().all(|count| *count > 10), "too few of some number: {seen:?}");
         for (counts, (part, numbers)) in added.iter().zip(ADDED) {
             let is_seen = numbers.iter().all(|number| counts[*number] > 10);

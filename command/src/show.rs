@@ -17,9 +17,12 @@ pub const COMMAND: Command = Command {
     help: "\
 Its facts, clauses, rules and attack states, with names where NAME.names lies
 beside NAME.model. A rule or goal `needs` its P and is stopped by its N, `not`;
-a rule takes away its P, persistent facts aside, and then `adds` its A. In
-version 3 it `makes` names, and fires only if none of them is in use. A model
-that is refused is not shown: standard error says why, and the exit is 1.
+a rule takes away its P, persistent facts aside, and then `adds` its A. From
+version 3 on it `makes` names, and fires only if none of them is in use.
+Version 4 has formulas about the past as further goals; `not`, `Yesterday`,
+`Once` and `Historically` bind the nearest, and in a formula a fact is its name
+alone. A model that is refused is not shown: standard error says why, and the
+exit is 1.
 
 Example:
   cantivorex show samples/desk.model",
@@ -67,9 +70,15 @@ fn text(model: &Model, counts: &Counts, names: &Names) -> Vec<String> {
     for (number, rule) in model.rules.iter().enumerate() {
         out.push(format!("  rule {}: {}", names.rule(number), conditions(rule, all)));
     }
-    out.push(format!("attack states: {}", counts.goals));
+    // The library counts goals of both sorts together.
+    let formulas = model.formulas().count();
+    out.push(format!("attack states: {}", counts.goals - formulas));
     for (number, goal) in model.goals.iter().enumerate() {
         out.push(format!("  goal {}: {}", names.goal(number), conditions(goal, all)));
+    }
+    out.extend(model.formulas.iter().map(|_| format!("formulas: {formulas}")));
+    for (number, formula) in model.formulas() {
+        out.push(format!("  goal {}: {}", names.goal(number), formula.text(names)));
     }
     out
 }

@@ -40,6 +40,8 @@ pub(crate) struct Board<'a> {
     pub(crate) turn: usize,
     pub(crate) model: Model,
     pub(crate) goal: usize,
+    /// The formula that is the goal, if one is.
+    pub(crate) formula: Option<usize>,
     pub(crate) steps: Vec<u16>,
     pub(crate) free: Vec<u16>,
 }
@@ -53,13 +55,14 @@ impl Board<'_> {
             free.retain(|f| f + 1 != facts);
             free.push(facts - 1);
         }
-        // The facts taken last, and names: these decide nothing unless a kind says so.
+        // The facts taken last, names and formulas: these decide nothing unless a kind says so.
         let count = rng.of(&[0, 1, 40]);
-        let version = 1 + rng.below(3);
+        let version = 1 + rng.below(4);
         let persistent = (version > 1).then(|| sorted(free[..count].to_vec()));
         let names = (version > 2).then(|| (1_024 - count as u16..1_024).collect());
-        let model = Model { facts, persistent, names, ..Model::default() };
-        Board { rng, turn, model, goal: 0, steps: Vec::new(), free }
+        let formulas = (version > 3).then(|| vec![vec![0]; count]);
+        let model = Model { facts, persistent, names, formulas, ..Model::default() };
+        Board { rng, turn, model, goal: 0, formula: None, steps: Vec::new(), free }
     }
 
     /// The next of `n` choices, turn by turn, so that none has to wait for luck.
@@ -93,12 +96,12 @@ impl Board<'_> {
         self.model.initial.extend(facts);
     }
 
-    /// These persistent facts, in version 2 unless there are names.
+    /// These persistent facts, in version 2 unless there are names or formulas.
     pub(crate) fn keep(&mut self, facts: &[u16]) {
         self.model.persistent = Some(sorted(facts.to_vec()));
     }
 
-    /// Version 3, with these names in use at the start.
+    /// Version 3 unless there are formulas, with these names in use at the start.
     pub(crate) fn in_use(&mut self, names: &[u16]) {
         self.model.names = Some(sorted(names.to_vec()));
     }
@@ -129,9 +132,24 @@ impl Board<'_> {
         self.model.rules.push(rule);
     }
 
+    /// A step that names a rule which may be there already.
+    pub(crate) fn again(&mut self, rule: Rule) {
+        match self.model.rules.iter().position(|other| *other == rule) {
+            Some(name) => self.steps.push(name as u16),
+            None => self.step(rule),
+        }
+    }
+
     pub(crate) fn aim(&mut self, pos: &[u16], neg: &[u16]) {
         self.goal = self.model.attacks.len();
         self.model.attacks.push(Attack { pos: pos.to_vec(), neg: neg.to_vec() });
+    }
+
+    /// Version 4, with a formula of these codes as the goal.
+    pub(crate) fn ask(&mut self, codes: Vec<u16>) {
+        let formulas = self.model.formulas.get_or_insert_default();
+        self.formula = Some(formulas.len());
+        formulas.push(codes);
     }
 
     /// Puts a list where the verdict hangs on it.
@@ -182,9 +200,9 @@ impl Board<'_> {
         self.chain(&links);
     }
 
-    /// The two files; a model without an attack state gets one that is always met.
+    /// The two files; without a goal there is an attack state that is always met.
     pub(crate) fn files(mut self) -> Files {
-        if self.model.attacks.is_empty() {
+        if self.model.attacks.is_empty() && self.formula.is_none() {
             self.aim(&[], &[]);
         }
         self.model.initial.sort_unstable();
@@ -193,7 +211,8 @@ impl Board<'_> {
 
     /// The two files, the initial facts as they are.
     pub(crate) fn written(self) -> Files {
-        (write_model(&self.model), write_trace(self.goal as u16, &self.steps))
+        let goal = self.formula.map_or(self.goal, |number| self.model.attacks.len() + number);
+        (write_model(&self.model), write_trace(goal as u16, &self.steps))
     }
 }
 

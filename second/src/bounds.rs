@@ -3,9 +3,10 @@
 //! large numbers in all fields of the verdict besides.
 
 use crate::board::{rule, Board, Files, Place, PLACES};
+use crate::codes::{tree_of_facts, OR};
 use crate::gen::{fields, raise, write_model, Rng};
 use crate::read::{Attack, Rule, NAMES_IN_USE, PERSISTENT};
-use crate::{fresh, lasting};
+use crate::{fresh, lasting, past};
 
 type Kind = fn(Board) -> Files;
 
@@ -57,6 +58,21 @@ const KINDS: &[Kind] = &[
     |b| lasting::misnumbered(b, NAMES_IN_USE),
     fresh::misnamed,
     fresh::misshapen_list,
+    |b| past::many(b, 64),
+    past::full,
+    past::full_of_past,
+    |b| past::nested(b, 32),
+    past::first_state,
+    past::some_state,
+    past::derived,
+    past::stopped,
+    past::malformed,
+    |b| past::nested(b, 33),
+    past::fact_beyond,
+    past::over_codes,
+    past::over_formulas,
+    past::misshapen,
+    past::last_goal,
 ];
 
 /// And a pair of one of these, which cost some hundredths of a second each.
@@ -413,7 +429,7 @@ fn missing_name(mut b: Board) -> Files {
     let beyond = [0, 0, 1, 256][b.rng.below(4)];
     let at = b.rng.below(1_024);
     match way {
-        0 => b.goal = 64 + beyond,
+        0 => b.goal = b.model.goals() + beyond,
         1 => b.steps[1_023] = 2_048 + beyond as u16,
         2 => b.steps[at] = 2_048 + beyond as u16,
         _ => (b.goal, b.steps[at]) = (65_535, 65_535),
@@ -425,8 +441,13 @@ fn missing_name(mut b: Board) -> Files {
 fn whole_model(mut b: Board) -> Files {
     let size = [65_535, 65_536, 65_537, 131_073][b.each(4)];
     let goal = b.take(32);
-    b.store_around(Place::GoalP, &goal);
-    b.put(Place::GoalP, &goal);
+    if b.model.formulas.is_some() {
+        b.store(&goal[31..]);
+        b.ask(tree_of_facts(OR, &goal));
+    } else {
+        b.store_around(Place::GoalP, &goal);
+        b.put(Place::GoalP, &goal);
+    }
     let (body, heads) = (b.take(16), b.loose(500));
     // A clause of 16 takes 36 bytes, a stored fact 2.
     let left = 65_535 - write_model(&b.model).len();

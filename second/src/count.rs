@@ -1,4 +1,5 @@
-//! Counting a model's parts: F stands in the sizes, clauses, rules and attack states are records.
+//! Counting a model's parts: F stands in the sizes, clauses, rules and goals are records. Goals are
+//! attack states and formulas together, as a trace numbers them.
 
 use crate::read::parse_model;
 
@@ -7,7 +8,7 @@ pub struct Counts {
     pub facts: usize,
     pub clauses: usize,
     pub rules: usize,
-    pub attacks: usize,
+    pub goals: usize,
 }
 
 /// The counts of a model, or the refusal's number.
@@ -17,6 +18,6 @@ pub fn count_api(model: &[u8]) -> Result<Counts, u8> {
         facts: model.facts as usize,
         clauses: model.clauses.len(),
         rules: model.rules.len(),
-        attacks: model.attacks.len(),
+        goals: model.goals(),
     })
 }

@@ -168,6 +168,7 @@ pub(crate) fn misnamed(mut b: Board) -> Files {
 pub(crate) fn misshapen_list(mut b: Board) -> Files {
     let way = b.each(5);
     let list = sorted(names(&mut b)[..32].to_vec());
+    b.model.formulas = None;
     b.keep(&[]);
     b.in_use(&[]);
     b.crowd();

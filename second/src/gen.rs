@@ -1,8 +1,9 @@
 //! Random pairs for comparing programs: sound ones whose steps run, and damaged ones.
 //! A pair depends on its seed and index alone, so any one of a stream can be made again.
 
-use crate::bounds;
-use crate::read::{bare_sections, Attack, Clause, Model, Rule, NAMES_IN_USE, PERSISTENT};
+use crate::read::{bare_sections, sections, Attack, Clause, Model, Rule};
+use crate::read::{FORMULAS, NAMES_IN_USE, PERSISTENT};
+use crate::{bounds, codes};
 use crate::{NAMES_BYTES, STATE_BYTES, TABLE_ENTRIES};
 use std::collections::BTreeSet;
 
@@ -56,7 +57,7 @@ impl Pair {
 }
 
 /// One pair in so many of the mixed stream is at a bound, the last of them.
-pub const AT_BOUNDS: u64 = 25;
+pub const AT_BOUNDS: u64 = 20;
 
 /// The mixed stream: a bit under half sound, the rest damaged or at the bounds, now and then too
 /// little room.
@@ -116,13 +117,13 @@ pub fn start_state(seed: u64, index: u64, facts: usize) -> Vec<u8> {
 // Writers. They write what they are given, faults included.
 
 pub fn write_model(model: &Model) -> Vec<u8> {
-    let later = [&model.persistent, &model.names].map(Option::as_deref);
-    // A version has the sections of those before it, empty if need be.
-    let extra = later.iter().rposition(Option::is_some).map_or(0, |last| last + 1);
-    let mut out = vec![1 + extra as u8];
+    let version = version(model);
+    let mut out = vec![version];
     section(&mut out, |out| word(out, model.facts as usize));
     section(&mut out, |out| words(out, &model.initial));
-    for list in &later[..extra] {
+    // A version has the sections of those before it, empty if need be.
+    let later = [&model.persistent, &model.names].map(Option::as_deref);
+    for list in later.iter().take(version as usize - 1) {
         section(&mut out, |out| words(out, list.unwrap_or_default()));
     }
     section(&mut out, |out| {
@@ -132,14 +133,29 @@ pub fn write_model(model: &Model) -> Vec<u8> {
             words(out, &c.body);
         }
     });
-    let rule_lists = if model.names.is_some() { 4 } else { 3 };
+    let rule_lists = if version > 2 { 4 } else { 3 };
     section(&mut out, |out| {
         for r in &model.rules {
             lists(out, &[&r.pos, &r.neg, &r.add, &r.names][..rule_lists]);
         }
     });
     section(&mut out, |out| model.attacks.iter().for_each(|a| lists(out, &[&a.pos, &a.neg])));
+    if let Some(formulas) = &model.formulas {
+        section(&mut out, |out| {
+            for codes in formulas {
+                word(out, 2 * codes.len());
+                words(out, codes);
+            }
+        });
+    }
     out
+}
+
+/// The first version that has all of a model's sections.
+pub(crate) fn version(model: &Model) -> u8 {
+    let Model { persistent, names, formulas, .. } = model;
+    let later = [persistent.is_some(), names.is_some(), formulas.is_some()];
+    later.iter().rposition(|is_there| *is_there).map_or(1, |last| last as u8 + 2)
 }
 
 pub fn write_trace(goal: u16, steps: &[u16]) -> Vec<u8> {
@@ -212,13 +228,16 @@ fn sound_lists(rng: &mut Rng) -> (Model, Vec<u16>) {
     model.persistent = some_persistent(rng, size.facts);
     model.clauses = some_clauses(rng, &size, &model.initial);
     let pool = some_pool(rng);
-    if model.persistent.is_some() && rng.below(5) < 3 {
+    if model.persistent.is_some() && !rng.one_in(5) {
         let count = rng.of(&[0, 1, 2, 3, 40]);
         model.names = Some(pool.draw(rng, count));
+        model.formulas = (!rng.one_in(4)).then(Vec::new);
     }
-    let mut story = Story { rng, size, model, pool, known: Vec::new(), used: BTreeSet::new() };
+    let (known, past, used) = (Vec::new(), Vec::new(), BTreeSet::new());
+    let mut story = Story { rng, size, model, pool, known, past, used };
     let mut names = story.steps();
-    names.insert(0, story.attacks());
+    let attack = story.attacks();
+    names.insert(0, story.formulas().unwrap_or(attack));
     (story.model, names)
 }
 
@@ -235,10 +254,10 @@ pub(crate) fn sorted(mut list: Vec<u16>) -> Vec<u16> {
     list
 }
 
-/// Every third model is of version 1; of the facts of the others none, all or about half are
+/// Every fifth model is of version 1; of the facts of the others none, all or about half are
 /// persistent.
 fn some_persistent(rng: &mut Rng, facts: usize) -> Option<Vec<u16>> {
-    if rng.one_in(3) {
+    if rng.one_in(5) {
         return None;
     }
     let share = rng.below(8);
@@ -323,14 +342,15 @@ fn learn(clause: &Clause, known: &mut [bool]) -> bool {
     fresh
 }
 
-/// A run that makes the rules it needs as it goes; `known` is the latest closure, `used` the names
-/// used by then.
+/// A run that makes the rules it needs as it goes; `known` is the latest closure, `past` those of all
+/// states, `used` the names used by then.
 struct Story<'a> {
     rng: &'a mut Rng,
     size: Size,
     model: Model,
     pool: Pool,
     known: Vec<bool>,
+    past: Vec<Vec<bool>>,
     used: BTreeSet<u16>,
 }
 
@@ -340,7 +360,7 @@ impl Story<'_> {
         self.model.initial.iter().for_each(|f| state[*f as usize] = true);
         let persistent: BTreeSet<u16> = self.model.persistent.iter().flatten().copied().collect();
         self.used.extend(self.model.names.iter().flatten());
-        self.known = reach(&self.model.clauses, &state);
+        self.reached(&state);
         for _ in 0..self.rng.below(3) {
             let idle = self.rule(false);
             self.model.rules.push(idle);
@@ -361,9 +381,14 @@ impl Story<'_> {
             goes.for_each(|f| state[*f as usize] = false);
             rule.add.iter().for_each(|f| state[*f as usize] = true);
             self.used.extend(&rule.names);
-            self.known = reach(&self.model.clauses, &state);
+            self.reached(&state);
         }
         steps
+    }
+
+    fn reached(&mut self, state: &[bool]) {
+        self.known = reach(&self.model.clauses, state);
+        self.past.push(self.known.clone());
     }
 
     fn fires(&self, name: usize) -> bool {
@@ -403,9 +428,10 @@ impl Story<'_> {
         Rule { pos, neg, add: sorted(add), names: self.names(fit) }
     }
 
-    /// The names that a new rule makes, in version 3. With `fit` they are unused, but at times for one.
+    /// The names that a new rule makes, from version 3 on. With `fit` they are unused, but at times for one.
     fn names(&mut self, fit: bool) -> Vec<u16> {
-        if self.model.names.is_none() {
+        // In version 4 half of the rules make none, so that more runs get to their goal.
+        if self.model.names.is_none() || self.model.formulas.is_some() && self.rng.one_in(2) {
             return vec![];
         }
         let count = self.list_size();
@@ -470,6 +496,48 @@ impl Story<'_> {
         }
         goal as u16
     }
+
+    /// Some formulas, in version 4, and mostly one of them as the goal; at times there is no attack state then.
+    fn formulas(&mut self) -> Option<u16> {
+        self.model.formulas.as_ref()?;
+        let count = if self.rng.one_in(200) { 64 } else { self.rng.below(5) };
+        let facts = self.facts_to_ask();
+        let count = if facts.is_empty() { 0 } else { count };
+        let formulas = (0..count).map(|_| some_formula(self.rng, &facts)).collect();
+        self.model.formulas = Some(formulas);
+        if count == 0 || self.rng.one_in(5) {
+            return None;
+        }
+        if self.rng.one_in(4) {
+            self.model.attacks.clear();
+        }
+        Some((self.model.attacks.len() + self.rng.below(count)) as u16)
+    }
+
+    /// Mostly those that come or go in the run, if there are any.
+    fn facts_to_ask(&mut self) -> Vec<u16> {
+        let comes_or_goes = |f: &u16| {
+            let is_there = |known: &Vec<bool>| known[*f as usize];
+            self.past.iter().any(is_there) && !self.past.iter().all(is_there)
+        };
+        let all = 0..self.size.facts as u16;
+        let moving: Vec<u16> = all.clone().filter(comes_or_goes).collect();
+        if moving.is_empty() || self.rng.one_in(4) {
+            return all.collect();
+        }
+        moving
+    }
+}
+
+/// Mostly small, at times as large as it may be; most are about the past as a whole.
+fn some_formula(rng: &mut Rng, facts: &[u16]) -> Vec<u16> {
+    let most = if rng.one_in(40) { 254 } else { 1 + rng.below(12) };
+    let formula = codes::any(rng, facts, most, 31);
+    match rng.below(6) {
+        0..=2 => [vec![codes::OF_ONE[1 + rng.below(3)]], formula].concat(),
+        3 if most < 100 => [vec![codes::SINCE], codes::any(rng, facts, most, 31), formula].concat(),
+        _ => formula,
+    }
 }
 
 // Damage: first to the lists, then to the written bytes.
@@ -490,6 +558,9 @@ fn damage(rng: &mut Rng) -> (Vec<u8>, Vec<u8>) {
 
 fn spoil_lists(rng: &mut Rng, model: &mut Model, names: &mut Vec<u16>) {
     let over = rng.of(&[0, 1, 1, 2]);
+    if model.formulas.is_some() && rng.below(5) < 3 {
+        return spoil_formulas(rng, model, &mut names[0], over);
+    }
     if model.names.is_some() && rng.one_in(2) {
         return spoil_names(rng, model, over);
     }
@@ -503,7 +574,7 @@ fn spoil_lists(rng: &mut Rng, model: &mut Model, names: &mut Vec<u16>) {
         12 => names.resize(1 + 1_024 + over * rng.of(&[1, 1, 510]), 0),
         _ => {
             let at = rng.below(names.len());
-            let known = if at == 0 { model.attacks.len() } else { model.rules.len() };
+            let known = if at == 0 { model.goals() } else { model.rules.len() };
             names[at] = rng.of(&[known, known, known + 1, 65_535]) as u16;
         }
     }
@@ -588,6 +659,46 @@ fn spoil_names(rng: &mut Rng, model: &mut Model, over: usize) {
     }
 }
 
+/// Faults of a formula's record, too many formulas, or a goal behind them.
+fn spoil_formulas(rng: &mut Rng, model: &mut Model, goal: &mut u16, over: usize) {
+    let (facts, goals) = (model.facts as usize, model.goals());
+    let beyond = rng.of(&[facts, facts, facts + 1, facts + 256, 32_767]) as u16;
+    let unknown = rng.of(&[32_776, 32_776, 32_777, 33_024, 65_535]) as u16;
+    let all = model.formulas.get_or_insert_default();
+    if all.is_empty() {
+        all.push(vec![codes::NOT, 0]);
+    }
+    let at = rng.below(all.len());
+    let formula = &mut all[at];
+    let some = formula.last().copied().unwrap_or(0);
+    match rng.below(24) {
+        0 => put_in(rng, formula, unknown),
+        // As an operator of one part or two.
+        1 | 2 => {
+            let again = if rng.one_in(2) { formula.clone() } else { vec![] };
+            formula.splice(0..0, [vec![unknown], again].concat());
+        }
+        3..=5 => {
+            formula.insert(0, codes::AND);
+            formula.truncate(1 + rng.below(formula.len()));
+        }
+        6..=8 => formula.clear(),
+        9..=11 => formula.extend([some, unknown, beyond].iter().take(1 + rng.below(2))),
+        12..=14 => drop(formula.splice(0..0, vec![codes::OF_ONE[rng.below(4)]; 31 + over])),
+        15 | 16 => *formula = long_formula(255 + over),
+        17 => all.resize(64 + over, vec![0]),
+        18 => put_in(rng, formula, beyond),
+        19 => formula.push(beyond),
+        _ => *goal = (goals + over / 2) as u16,
+    }
+}
+
+/// A formula of so many codes, of which there is a half as facts.
+pub(crate) fn long_formula(codes: usize) -> Vec<u16> {
+    let tree = codes::tree_of_facts(codes::OR, &vec![0; codes.div_ceil(2)]);
+    [&[codes::NOT][..(codes + 1) % 2], &tree].concat()
+}
+
 fn many_records(rng: &mut Rng, model: &mut Model, over: usize) {
     match rng.below(60) {
         0 => model.clauses.resize(4_096 + over, Clause::default()),
@@ -596,9 +707,10 @@ fn many_records(rng: &mut Rng, model: &mut Model, over: usize) {
     }
 }
 
-/// A length or count in the file; `end` is where the bytes it covers end, for lengths, and `list` which
-/// of its record's lists a count belongs to.
+/// A length or count in the file; `section` is the one it belongs to, `end` where the bytes it covers
+/// end, for lengths, and `list` which of its record's lists a count belongs to.
 pub(crate) struct Field {
+    pub(crate) section: usize,
     pub(crate) at: usize,
     pub(crate) wide: usize,
     end: usize,
@@ -626,26 +738,33 @@ pub(crate) fn fields(file: &[u8], is_model: bool) -> Vec<Field> {
     let mut out = Vec::new();
     let mut at = 1;
     let bare = bare_sections(file);
-    for index in 0..if is_model { bare + 3 } else { 1 } {
+    for section in 0..if is_model { sections(file) } else { 1 } {
         let Some(len) = number_at(file, at, 4) else { break };
         let end = file.len().min(at + 4 + len);
-        out.push(Field { at, wide: 4, end, list: None });
-        if index >= bare {
-            record_fields(&file[..end], at + 4, index > bare, &mut out);
+        out.push(Field { section, at, wide: 4, end, list: None });
+        if section >= bare {
+            let has_counts = section > bare && section < FORMULAS;
+            record_fields(&file[..end], section, at + 4, has_counts, &mut out);
         }
         at = end;
     }
     out
 }
 
-fn record_fields(section: &[u8], mut at: usize, has_counts: bool, out: &mut Vec<Field>) {
-    while let Some(len) = number_at(section, at, 2) {
-        let end = section.len().min(at + 2 + len);
-        out.push(Field { at, wide: 2, end, list: None });
+fn record_fields(
+    file: &[u8],
+    section: usize,
+    mut at: usize,
+    has_counts: bool,
+    out: &mut Vec<Field>,
+) {
+    while let Some(len) = number_at(file, at, 2) {
+        let end = file.len().min(at + 2 + len);
+        out.push(Field { section, at, wide: 2, end, list: None });
         let (mut list, mut index) = (at + 2, 0);
         while has_counts && list + 2 <= end {
-            out.push(Field { at: list, wide: 2, end: 0, list: Some(index) });
-            list += 2 + 2 * number_at(section, list, 2).unwrap_or(0);
+            out.push(Field { section, at: list, wide: 2, end: 0, list: Some(index) });
+            list += 2 + 2 * number_at(file, list, 2).unwrap_or(0);
             index += 1;
         }
         at = end;
@@ -678,24 +797,29 @@ fn spoil_bytes(rng: &mut Rng, file: &mut Vec<u8>, is_model: bool) {
 /// A version that there isn't, or the one of another layout.
 fn other_version(rng: &mut Rng, file: &mut [u8], is_model: bool) {
     let other = another_layout(rng, file[0]) as usize;
-    let choices = if is_model { &[0, 4, 255, other][..] } else { &[0, 2, 2, 2, 2, 3] };
+    let choices = if is_model { &[0, 5, 255, other][..] } else { &[0, 2, 2, 2, 2, 3, 4] };
     file[0] = rng.of(choices) as u8;
 }
 
 pub(crate) fn another_layout(rng: &mut Rng, version: u8) -> u8 {
-    version.wrapping_add(rng.below(2) as u8) % 3 + 1
+    version.wrapping_add(rng.below(3) as u8) % 4 + 1
 }
 
 fn spoil_field(rng: &mut Rng, file: &mut [u8], is_model: bool) {
     let mut all = fields(file, is_model);
     let bare = if is_model { bare_sections(file) } else { 0 };
-    let fourth = all.iter().any(|field| field.list == Some(3));
-    // Often the length of persistent facts or of names, or the count of a fourth list.
-    let at = match rng.below(5) {
+    let in_fourth = |field: &Field| field.list == Some(3);
+    let of_formulas = |field: &Field| field.section == FORMULAS;
+    // Often the length of persistent facts or of names, the count of a fourth list, or a length of formulas.
+    let at = match rng.below(7) {
         0 if bare > PERSISTENT => PERSISTENT,
         1 | 2 if bare > NAMES_IN_USE => NAMES_IN_USE,
-        3 if fourth => {
-            all.retain(|field| field.list == Some(3));
+        3 if all.iter().any(in_fourth) => {
+            all.retain(in_fourth);
+            rng.below(all.len())
+        }
+        4 | 5 if all.iter().any(of_formulas) => {
+            all.retain(of_formulas);
             rng.below(all.len())
         }
         _ => rng.below(all.len()),

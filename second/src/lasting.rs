@@ -4,7 +4,7 @@
 
 use crate::board::{rule, Board, Files};
 use crate::fresh::names;
-use crate::gen::{another_layout, fields, set_number, sorted};
+use crate::gen::{another_layout, fields, set_number, sorted, version};
 use crate::read::PERSISTENT;
 
 /// A step that asks for stored facts; some are to stay and some to go.
@@ -185,14 +185,13 @@ pub(crate) fn misnumbered(mut b: Board, section: usize) -> Files {
 /// A version that there isn't, and one that the rest isn't written in.
 pub(crate) fn other_version(mut b: Board) -> Files {
     let way = b.each(6);
-    let any = 5 + b.rng.below(250);
-    let version = 1 + b.model.persistent.iter().chain(&b.model.names).count() as u8;
-    let other = another_layout(b.rng, version) as usize;
+    let any = 6 + b.rng.below(249);
+    let other = another_layout(b.rng, version(&b.model)) as usize;
     b.crowd();
     let (mut model, mut trace) = b.files();
     match way {
         5 => trace[0] = 2,
-        _ => model[0] = [0, 4, 255, other, any][way] as u8,
+        _ => model[0] = [0, 5, 255, other, any][way] as u8,
     }
     (model, trace)
 }

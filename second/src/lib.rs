@@ -4,10 +4,13 @@
 mod board;
 mod bounds;
 pub mod close;
+mod codes;
 mod count;
+mod formula;
 mod fresh;
 pub mod gen;
 mod lasting;
+mod past;
 pub mod read;
 mod tally;
 
@@ -17,6 +20,7 @@ pub use count::{count_api, Counts};
 pub use read::{parse, parse_model, Attack, Clause, Model, Parsed, Part, Rule, Trace};
 pub use tally::Tally;
 
+use formula::{truth, Formula};
 use std::collections::BTreeSet;
 
 pub const ATTACK: u8 = 0;
@@ -34,10 +38,12 @@ pub const BLOCKED: u8 = 10;
 pub const NOATTACK: u8 = 11;
 pub const BADNAME: u8 = 12;
 pub const USED: u8 = 13;
+pub const FORMULA: u8 = 17;
 
-pub const NAMES: [&str; 14] = [
+/// 14 to 16 are the text reader's and never given here.
+pub const NAMES: [&str; 18] = [
     "ATTACK", "ROOM", "LONG", "VERSION", "SHAPE", "COUNT", "FACT", "ORDER", "NEGATED", "NAME",
-    "BLOCKED", "NOATTACK", "BADNAME", "USED",
+    "BLOCKED", "NOATTACK", "BADNAME", "USED", "TEXT", "VARIABLE", "DEPTH", "FORMULA",
 ];
 
 /// Kinds: whether the unmet condition is one of P or one of N.
@@ -98,7 +104,7 @@ pub fn check(
         Ok(parsed) => {
             let end = run(&parsed);
             write_bits(&end.stored, &mut state[..STATE_BYTES]);
-            write_table(&end.numbers, table);
+            write_table(end.numbers(), table);
             write_bits(&end.used, &mut names[..NAMES_BYTES]);
             end.verdict
         }
@@ -139,7 +145,7 @@ pub(crate) fn room(state: &[u8], table: &[u16]) -> bool {
 }
 
 fn refusal(Fault { number, mark, start, len }: Fault) -> Verdict {
-    let Unmet { kind, fact, round } = ALL_MET;
+    let Unmet { kind, fact, round } = NOTHING;
     Verdict { number, step: 0, fact, rounds: 0, held: 0, kind, round, mark, start, len }
 }
 
@@ -151,49 +157,56 @@ struct Unmet {
     round: u16,
 }
 
-const ALL_MET: Unmet = Unmet { kind: NO_KIND, fact: NONE, round: NONE };
+const NOTHING: Unmet = Unmet { kind: NO_KIND, fact: NONE, round: NONE };
 
-/// Where a run ends: the last state reached, which is facts and names, its round numbers, and what is
-/// said of it.
+/// Where a run ends: the last state reached, which is facts and names, the round numbers of all states
+/// reached, and what is said of the last.
 struct End {
     stored: BTreeSet<u16>,
     used: BTreeSet<u16>,
-    numbers: Vec<u16>,
+    history: Vec<Vec<u16>>,
     verdict: Verdict,
 }
 
+impl End {
+    fn numbers(&self) -> &[u16] {
+        &self.history[self.history.len() - 1]
+    }
+}
+
 fn run(parsed: &Parsed) -> End {
-    let Parsed { model, trace, attack_places } = parsed;
+    let Parsed { model, trace, goal_places } = parsed;
     let mut stored: BTreeSet<u16> = model.initial.iter().copied().collect();
     let persistent: BTreeSet<u16> = model.persistent.iter().flatten().copied().collect();
     let mut used: BTreeSet<u16> = model.names.iter().flatten().copied().collect();
-    let (mut rounds, mut numbers) = close(model, &stored);
+    let (mut rounds, numbers) = close(model, &stored);
+    let mut history = vec![numbers];
     for (step, &name) in trace.steps.iter().enumerate() {
         let rule = &model.rules[name as usize];
-        if let Some((number, Unmet { kind, fact, round })) = why_not(rule, &numbers, &used) {
+        let numbers = &history[step];
+        if let Some((number, Unmet { kind, fact, round })) = why_not(rule, numbers, &used) {
             // The trace's section starts at byte 5, and the goal takes its first two bytes.
             let fault = Fault { number, mark: TRACE, start: 7 + 2 * step, len: 2 };
             let held = stored.len();
             let verdict = Verdict { step, fact, rounds, held, kind, round, ..refusal(fault) };
-            return End { stored, used, numbers, verdict };
+            return End { stored, used, history, verdict };
         }
         stored = next_state(&stored, rule, &persistent);
         used.extend(&rule.names);
-        let (more, anew) = close(model, &stored);
+        let (more, numbers) = close(model, &stored);
         rounds += more;
-        numbers = anew;
+        history.push(numbers);
     }
-    let goal = &model.attacks[trace.goal as usize];
-    let unmet = first_unmet(&goal.pos, &goal.neg, &numbers);
-    let Part { start, len } = attack_places[trace.goal as usize];
+    let unmet = why_no_attack(model, trace.goal as usize, &history);
+    let Part { start, len } = goal_places[trace.goal as usize];
     let fault = match unmet {
         Some(_) => Fault { number: NOATTACK, mark: MODEL, start, len },
         None => Fault { number: ATTACK, mark: MODEL, start: 0, len: 0 },
     };
     let (step, held) = (trace.steps.len(), stored.len());
-    let Unmet { kind, fact, round } = unmet.unwrap_or(ALL_MET);
+    let Unmet { kind, fact, round } = unmet.unwrap_or(NOTHING);
     let verdict = Verdict { step, fact, rounds, held, kind, round, ..refusal(fault) };
-    End { stored, used, numbers, verdict }
+    End { stored, used, history, verdict }
 }
 
 /// Why a rule can't fire: a condition, and only if all of them are met a name that is used.
@@ -202,7 +215,22 @@ fn why_not(rule: &Rule, numbers: &[u16], used: &BTreeSet<u16>) -> Option<(u8, Un
         return Some((BLOCKED, unmet));
     }
     let &name = rule.names.iter().find(|name| used.contains(name))?;
-    Some((USED, Unmet { fact: name, ..ALL_MET }))
+    Some((USED, Unmet { fact: name, ..NOTHING }))
+}
+
+/// Why a goal isn't reached in the last state: an attack state's condition, or a formula that is true,
+/// which has neither fact nor kind nor round.
+fn why_no_attack(model: &Model, goal: usize, history: &[Vec<u16>]) -> Option<Unmet> {
+    if let Some(Attack { pos, neg }) = model.attacks.get(goal) {
+        return first_unmet(pos, neg, &history[history.len() - 1]);
+    }
+    asked(model, goal).filter(|formula| truth(formula, history)).map(|_| NOTHING)
+}
+
+/// The formula that a goal is, if it is one: their numbers run on from the attack states.
+fn asked(model: &Model, goal: usize) -> Option<Formula> {
+    let number = goal.checked_sub(model.attacks.len())?;
+    formula::read(model.formulas.as_ref()?.get(number)?).ok()
 }
 
 /// P is searched before N; a fact is in the closure when it has a round number.

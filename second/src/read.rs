@@ -1,6 +1,9 @@
 //! From bytes to owned lists, or to the first fault in the fixed order.
 
-use crate::{Fault, BADNAME, COUNT, FACT, LONG, MODEL, NAME, ORDER, SHAPE, TRACE, VERSION};
+use crate::formula::{self, OPERATORS};
+use crate::{
+    Fault, BADNAME, COUNT, FACT, FORMULA, LONG, MODEL, NAME, ORDER, SHAPE, TRACE, VERSION,
+};
 
 #[derive(Clone, Debug, Default, PartialEq, Eq)]
 pub struct Clause {
@@ -13,7 +16,7 @@ pub struct Rule {
     pub pos: Vec<u16>,
     pub neg: Vec<u16>,
     pub add: Vec<u16>,
-    /// The names it makes; only version 3 has the list.
+    /// The names it makes; only versions 3 and 4 have the list.
     pub names: Vec<u16>,
 }
 
@@ -27,13 +30,22 @@ pub struct Attack {
 pub struct Model {
     pub facts: u16,
     pub initial: Vec<u16>,
-    /// Versions 2 and 3 have the section, even if it is empty; version 1 has none.
+    /// Versions 2 to 4 have the section, even if it is empty; version 1 has none.
     pub persistent: Option<Vec<u16>>,
-    /// The names in use at the start: only version 3 has the section.
+    /// The names in use at the start: only versions 3 and 4 have the section.
     pub names: Option<Vec<u16>>,
     pub clauses: Vec<Clause>,
     pub rules: Vec<Rule>,
     pub attacks: Vec<Attack>,
+    /// The formulas as codes: only version 4 has the section.
+    pub formulas: Option<Vec<Vec<u16>>>,
+}
+
+impl Model {
+    /// How many goals can be named: the formulas' numbers run on from the attack states.
+    pub fn goals(&self) -> usize {
+        self.attacks.len() + self.formulas.iter().flatten().count()
+    }
 }
 
 #[derive(Clone, Debug, Default, PartialEq, Eq)]
@@ -46,8 +58,8 @@ pub struct Trace {
 pub struct Parsed {
     pub model: Model,
     pub trace: Trace,
-    /// Each attack state's record with its length, since NOATTACK hands it back.
-    pub attack_places: Vec<Part>,
+    /// Each goal's record with its length, since NOATTACK hands it back.
+    pub goal_places: Vec<Part>,
 }
 
 /// A stretch of one file.
@@ -85,21 +97,21 @@ fn in_trace((number, Part { start, len }): Fail) -> Fault {
 }
 
 /// The first bytes that there are.
-const MODEL_VERSIONS: &[u8] = &[1, 2, 3];
+const MODEL_VERSIONS: &[u8] = &[1, 2, 3, 4];
 const TRACE_VERSIONS: &[u8] = &[1];
 
-/// Everything judged before the first step, buffers apart: numbers 2 to 9 and 12.
+/// Everything judged before the first step, buffers apart: numbers 2 to 9, 12 and 17.
 pub fn parse(model: &[u8], trace: &[u8]) -> Result<Parsed, Fault> {
     judge_size(model, 65_536).map_err(in_model)?;
     judge_size(trace, 4_096).map_err(in_trace)?;
     judge_version(model, MODEL_VERSIONS).map_err(in_model)?;
     judge_version(trace, TRACE_VERSIONS).map_err(in_trace)?;
-    let (model, attack_places) = read_model(model).map_err(in_model)?;
+    let (model, goal_places) = read_model(model).map_err(in_model)?;
     let trace = read_trace(trace, &model).map_err(in_trace)?;
-    Ok(Parsed { model, trace, attack_places })
+    Ok(Parsed { model, trace, goal_places })
 }
 
-/// The model's share of that, numbers 2 to 7 and 12, for closing called by itself.
+/// The model's share of that, numbers 2 to 7, 12 and 17, for closing called by itself.
 pub fn parse_model(model: &[u8]) -> Result<Model, Fault> {
     judge_size(model, 65_536).map_err(in_model)?;
     judge_version(model, MODEL_VERSIONS).map_err(in_model)?;
@@ -133,7 +145,7 @@ fn judge_tail(file: &[u8], last: Part) -> Result<(), Fail> {
     fail_if(last.end() < file.len(), SHAPE, rest_of(file, last.end()))
 }
 
-fn numbers(bytes: &[u8]) -> Vec<u16> {
+pub(crate) fn numbers(bytes: &[u8]) -> Vec<u16> {
     bytes.chunks_exact(2).map(|b| u16::from_be_bytes([b[0], b[1]])).collect()
 }
 
@@ -149,12 +161,15 @@ fn read_model(file: &[u8]) -> Result<(Model, Vec<Part>), Fail> {
     let (end, persistent) = read_later(file, end, PERSISTENT, below_f)?;
     let (end, names) = read_later(file, end, NAMES_IN_USE, A_NAME)?;
     let rule_kind = if names.is_some() { &RULE_WITH_NAMES } else { &RULE };
-    let (end, clauses) = read_records(file, end.end(), facts, &CLAUSE)?;
-    let (end, rules) = read_records(file, end.end(), facts, rule_kind)?;
-    let (end, attacks) = read_records(file, end.end(), facts, &ATTACK_STATE)?;
+    let (end, clauses) = read_lists(file, end.end(), facts, &CLAUSE)?;
+    let (end, rules) = read_lists(file, end.end(), facts, rule_kind)?;
+    let (end, attacks) = read_lists(file, end.end(), facts, &ATTACK_STATE)?;
+    let (end, formulas) = read_formulas(file, end, facts)?;
     judge_tail(file, end)?;
 
-    let attack_places = attacks.iter().map(|(part, _)| *part).collect();
+    let attack_places = attacks.iter().map(|(part, _)| *part);
+    let formula_places = formulas.iter().flatten().map(|(part, _)| *part);
+    let goal_places = attack_places.chain(formula_places).collect();
     let model = Model {
         facts,
         initial,
@@ -163,8 +178,9 @@ fn read_model(file: &[u8]) -> Result<(Model, Vec<Part>), Fail> {
         clauses: clauses.into_iter().map(|(_, split)| clause(split)).collect(),
         rules: rules.into_iter().map(|(_, split)| rule(split)).collect(),
         attacks: attacks.into_iter().map(|(_, split)| attack(split)).collect(),
+        formulas: formulas.map(|all| all.into_iter().map(|(_, codes)| codes).collect()),
     };
-    Ok((model, attack_places))
+    Ok((model, goal_places))
 }
 
 /// Where the clause section's bytes lie in a model already found well-formed.
@@ -198,18 +214,25 @@ pub(crate) fn names_at_fault(model: &[u8], record: Part) -> Option<u8> {
     judge_record(&fourth, 0, 0, &RULE_WITH_NAMES).err()
 }
 
-/// The indices of the sections that version 2 and version 3 add.
+/// The indices of the sections that versions 2, 3 and 4 add.
 pub(crate) const PERSISTENT: usize = 2;
 pub(crate) const NAMES_IN_USE: usize = 3;
+pub(crate) const FORMULAS: usize = 7;
 
 /// How many sections of bare numbers a model has, which stand before the clauses: version 2 and
 /// version 3 have one more each.
 pub(crate) fn bare_sections(model: &[u8]) -> usize {
     match model.first() {
         Some(2) => 3,
-        Some(3) => 4,
+        Some(3 | 4) => 4,
         _ => 2,
     }
+}
+
+/// How many sections a model has: three of records, and a fourth in version 4.
+pub(crate) fn sections(model: &[u8]) -> usize {
+    let formulas = model.first() == Some(&4);
+    bare_sections(model) + 3 + formulas as usize
 }
 
 fn read_sizes(bytes: &[u8], part: Part) -> Result<u16, Fail> {
@@ -264,9 +287,10 @@ struct Split {
     lists: Vec<Vec<u16>>,
 }
 
-type Records = Vec<(Part, Split)>;
+/// A section, and its records with their places.
+type Records<T> = (Part, Vec<(Part, T)>);
 
-/// What tells the three record sections apart.
+/// What tells the three sections with records of lists apart.
 struct Kind {
     most: usize,
     longest: usize,
@@ -278,19 +302,60 @@ const RULE: Kind = Kind { most: 2_048, longest: 32, split: |bytes| split_lists(b
 const RULE_WITH_NAMES: Kind = Kind { split: |bytes| split_lists(bytes, 4), ..RULE };
 const ATTACK_STATE: Kind = Kind { most: 64, longest: 32, split: |bytes| split_lists(bytes, 2) };
 
-/// Each record is judged in full before the next one is looked at.
-fn read_records(file: &[u8], at: usize, facts: u16, kind: &Kind) -> Result<(Part, Records), Fail> {
+/// Each record is judged in full before the next one is looked at; `read` gets its bytes and its number.
+fn read_records<T>(
+    file: &[u8],
+    at: usize,
+    read: impl Fn(&[u8], usize) -> Result<T, u8>,
+) -> Result<Records<T>, Fail> {
     let whole = section(file, at)?;
     let mut records = Vec::new();
     let mut at = whole.start;
     while at < whole.end() {
         let part = record_place(file, Part { start: at, len: whole.end() - at })?;
-        let split = (kind.split)(&part.of(file)[2..]).ok_or((SHAPE, part))?;
-        judge_record(&split, records.len(), facts, kind).map_err(|number| (number, part))?;
-        records.push((part, split));
+        let record = read(&part.of(file)[2..], records.len()).map_err(|number| (number, part))?;
+        records.push((part, record));
         at = part.end();
     }
     Ok((whole, records))
+}
+
+fn read_lists(file: &[u8], at: usize, facts: u16, kind: &Kind) -> Result<Records<Split>, Fail> {
+    read_records(file, at, |bytes, index| {
+        let split = (kind.split)(bytes).ok_or(SHAPE)?;
+        judge_record(&split, index, facts, kind)?;
+        Ok(split)
+    })
+}
+
+/// The last section, if the version has it, behind the attack states; and the last one read then.
+fn read_formulas(
+    file: &[u8],
+    last: Part,
+    facts: u16,
+) -> Result<(Part, Option<Vec<(Part, Vec<u16>)>>), Fail> {
+    if sections(file) <= FORMULAS {
+        return Ok((last, None));
+    }
+    let read = |bytes: &[u8], index: usize| read_formula(bytes, index, facts);
+    let (whole, formulas) = read_records(file, last.end(), read)?;
+    Ok((whole, Some(formulas)))
+}
+
+/// A formula's codes. Its passes: shape, bounds, facts wherever they stand, and last whether it is one.
+fn read_formula(bytes: &[u8], index: usize, facts: u16) -> Result<Vec<u16>, u8> {
+    let codes = numbers(bytes);
+    if bytes.len() % 2 == 1 {
+        return Err(SHAPE);
+    }
+    if index >= 64 || codes.len() > 255 {
+        return Err(COUNT);
+    }
+    if codes.iter().any(|code| *code < OPERATORS && *code >= facts) {
+        return Err(FACT);
+    }
+    formula::read(&codes).map_err(|_| FORMULA)?;
+    Ok(codes)
 }
 
 /// The record at the start of what is left of its section, length included.
@@ -369,7 +434,7 @@ fn read_trace(file: &[u8], model: &Model) -> Result<Trace, Fail> {
     let goal = steps.remove(0);
     fail_if(steps.len() > 1_024, COUNT, part)?;
     let two = |index: usize| Part { start: part.start + 2 * index, len: 2 };
-    fail_if(goal as usize >= model.attacks.len(), NAME, two(0))?;
+    fail_if(goal as usize >= model.goals(), NAME, two(0))?;
     match steps.iter().position(|s| *s as usize >= model.rules.len()) {
         Some(step) => Err((NAME, two(step + 1))),
         None => Ok(Trace { goal, steps }),

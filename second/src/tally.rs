@@ -1,20 +1,28 @@
-//! How often each verdict, each kind of unmet condition and each thing of versions 2 and 3 comes up
-//! in a stream of pairs.
+//! How often each verdict, each kind of unmet condition and each thing of versions 2 to 4 comes up in
+//! a stream of pairs.
 
+use crate::formula::{self, truth, Wrong};
 use crate::gen::Pair;
-use crate::read::{bare_sections, names_at_fault, parse, section_part, Parsed, Part};
-use crate::read::{NAMES_IN_USE, PERSISTENT};
-use crate::{run, Verdict, BADNAME, BLOCKED, COUNT, FACT, MODEL, NAMES, NEGATED, NEGATIVE, ORDER};
-use crate::{POSITIVE, ROOM, SHAPE, TRACE, USED, VERSION};
+use crate::read::{
+    bare_sections, names_at_fault, numbers, parse, section_part, sections, Parsed, Part,
+};
+use crate::read::{FORMULAS, NAMES_IN_USE, PERSISTENT};
+use crate::{
+    asked, run, Verdict, ATTACK, BADNAME, BLOCKED, COUNT, FACT, FORMULA, MODEL, NAME, NAMES,
+};
+use crate::{
+    NEGATED, NEGATIVE, NOATTACK, NONE, ORDER, POSITIVE, ROOM, SHAPE, TRACE, USED, VERSION,
+};
 use std::collections::BTreeSet;
 
-/// A pair with its verdict, with the one that it had if no fact were persistent, and with what its
-/// names did.
+/// A pair with its verdict, with the one that it had if no fact were persistent, with what its names
+/// did, and with what its goal hangs on if that is a formula.
 struct Seen<'a> {
     pair: &'a Pair,
     verdict: &'a Verdict,
     without: Verdict,
     named: Named,
+    asked: Option<Asked>,
 }
 
 /// What names did in a pair that is run.
@@ -30,10 +38,21 @@ struct Named {
     left: bool,
 }
 
+/// What a formula that is judged would not be the same without.
+#[derive(Default)]
+struct Asked {
+    /// All states but the last.
+    past: bool,
+    /// The initial state, where it isn't the last.
+    start: bool,
+    /// The facts that are only derived.
+    derived: bool,
+}
+
 /// Whether a pair counts.
 type Counts = fn(&Seen) -> bool;
 
-const ROWS: [(&str, Counts); 28] = [
+const ROWS: [(&str, Counts); 44] = [
     ("positive", |s| s.verdict.kind == POSITIVE),
     ("negative, stored", |s| s.verdict.kind == NEGATIVE && s.verdict.round == 0),
     ("negative, round 1", |s| s.verdict.kind == NEGATIVE && s.verdict.round == 1),
@@ -41,6 +60,7 @@ const ROWS: [(&str, Counts); 28] = [
     ("a model of version 1", |s| s.pair.model.first() == Some(&1)),
     ("a model of version 2", |s| s.pair.model.first() == Some(&2)),
     ("a model of version 3", |s| s.pair.model.first() == Some(&3)),
+    ("a model of version 4", |s| s.pair.model.first() == Some(&4)),
     ("persistence decides", |s| *s.verdict != s.without),
     (".. and the verdict's number", |s| s.verdict.number != s.without.number),
     ("SHAPE of persistent facts", |s| s.blames(PERSISTENT, SHAPE)),
@@ -58,8 +78,23 @@ const ROWS: [(&str, Counts); 28] = [
     ("COUNT of a rule's names", |s| s.blames_made(COUNT)),
     ("BADNAME of a rule's names", |s| s.blames_made(BADNAME)),
     ("ORDER of a rule's names", |s| s.blames_made(ORDER)),
+    ("a formula, ATTACK", |s| s.is_asked(&[ATTACK])),
+    ("a formula, NOATTACK", |s| s.is_asked(&[NOATTACK])),
+    ("a formula, BLOCKED or USED", |s| s.is_asked(&[BLOCKED, USED])),
+    ("the past decides", |s| s.asked.as_ref().is_some_and(|asked| asked.past)),
+    (".. and the initial state", |s| s.asked.as_ref().is_some_and(|asked| asked.start)),
+    ("a formula's derived fact", |s| s.asked.as_ref().is_some_and(|asked| asked.derived)),
+    ("NAME of a goal in version 4", |s| s.verdict.number == NAME && s.is_goal_of_4()),
+    ("SHAPE of a formula", |s| s.blames_formula(SHAPE)),
+    ("COUNT of a formula", |s| s.blames_formula(COUNT)),
+    ("FACT of a formula", |s| s.blames_formula(FACT)),
+    ("FORMULA, no such code", |s| s.is_wrong(Wrong::Code)),
+    ("FORMULA, unfinished", |s| s.is_wrong(Wrong::Unfinished) && s.verdict.len > 2),
+    ("FORMULA, no code", |s| s.is_wrong(Wrong::Unfinished) && s.verdict.len == 2),
+    ("FORMULA, codes left over", |s| s.is_wrong(Wrong::After)),
+    ("FORMULA, too deep", |s| s.is_wrong(Wrong::Deep)),
     ("VERSION of a model, 0", |s| s.has_version(MODEL, 0)),
-    ("VERSION of a model, 4", |s| s.has_version(MODEL, 4)),
+    ("VERSION of a model, 5", |s| s.has_version(MODEL, 5)),
     ("VERSION of a model, 255", |s| s.has_version(MODEL, 255)),
     ("VERSION of a trace, 2", |s| s.has_version(TRACE, 2)),
 ];
@@ -78,6 +113,33 @@ impl Seen<'_> {
         let (model, Verdict { mark, start, len, .. }) = (&self.pair.model, *self.verdict);
         let is_number = self.verdict.number == number && mark == MODEL;
         is_number && names_at_fault(model, Part { start, len }) == Some(number)
+    }
+
+    /// Run, with a formula as the goal.
+    fn is_asked(&self, numbers: &[u8]) -> bool {
+        self.asked.is_some() && numbers.contains(&self.verdict.number)
+    }
+
+    fn is_goal_of_4(&self) -> bool {
+        self.pair.model[0] == 4 && self.verdict.start == 5
+    }
+
+    /// Refused for a record of the formulas.
+    fn blames_formula(&self, number: u8) -> bool {
+        let (model, Verdict { mark, start, len, .. }) = (&self.pair.model, *self.verdict);
+        let is_number = self.verdict.number == number && mark == MODEL && len > 0;
+        if !is_number || sections(model) <= FORMULAS {
+            return false;
+        }
+        let is_in = |all: Part| all.start <= start && start + len <= all.start + all.len;
+        section_part(model, FORMULAS).is_some_and(is_in)
+    }
+
+    /// Refused with FORMULA, and for this.
+    fn is_wrong(&self, wrong: Wrong) -> bool {
+        let Verdict { number, start, len, .. } = *self.verdict;
+        let codes = || numbers(&self.pair.model[start + 2..start + len]);
+        number == FORMULA && formula::read(&codes()).err() == Some(wrong)
     }
 
     /// Refused for a version, and for which.
@@ -112,6 +174,25 @@ fn named(Parsed { model, trace, .. }: &Parsed, verdict: &Verdict) -> Named {
     }
 }
 
+/// What the goal hangs on, if it is a formula; nothing where a step doesn't fire.
+fn hangs_on(parsed: &Parsed, verdict: &Verdict) -> Option<Asked> {
+    let formula = asked(&parsed.model, parsed.trace.goal as usize)?;
+    if verdict.number == BLOCKED || verdict.number == USED {
+        return Some(Asked::default());
+    }
+    let history = run(parsed).history;
+    let is_stored = |n: &u16| if *n == 0 { 0 } else { NONE };
+    let stored: Vec<Vec<u16>> =
+        history.iter().map(|numbers| numbers.iter().map(is_stored).collect()).collect();
+    let is_true = truth(&formula, &history);
+    let (steps, last) = (&history[history.len().min(2) - 1..], &history[history.len() - 1..]);
+    Some(Asked {
+        past: truth(&formula, last) != is_true,
+        start: truth(&formula, steps) != is_true,
+        derived: truth(&formula, &stored) != is_true,
+    })
+}
+
 /// Whether a step asks for a persistent fact: otherwise none can decide.
 fn asks_for_persistent(Parsed { model, trace, .. }: &Parsed) -> bool {
     let mut rules = trace.steps.iter().map(|step| &model.rules[*step as usize]);
@@ -119,18 +200,25 @@ fn asks_for_persistent(Parsed { model, trace, .. }: &Parsed) -> bool {
     rules.any(|rule| rule.pos.iter().any(|f| persistent.contains(f)))
 }
 
-#[derive(Default)]
 pub struct Tally {
     numbers: [u64; NAMES.len()],
     rows: [u64; ROWS.len()],
 }
 
+impl Default for Tally {
+    fn default() -> Tally {
+        Tally { numbers: [0; NAMES.len()], rows: [0; ROWS.len()] }
+    }
+}
+
 impl Tally {
     pub fn add(&mut self, pair: &Pair, verdict: &Verdict) {
         self.numbers[verdict.number as usize] += 1;
-        let mut seen = Seen { pair, verdict, without: *verdict, named: Named::default() };
+        let (without, named) = (*verdict, Named::default());
+        let mut seen = Seen { pair, verdict, without, named, asked: None };
         if let (Ok(parsed), true) = (parse(&pair.model, &pair.trace), verdict.number != ROOM) {
-            seen.named = named(&parsed, verdict);
+            seen.named = self::named(&parsed, verdict);
+            seen.asked = hangs_on(&parsed, verdict);
             seen.without = without_persistence(parsed, verdict);
         }
         for (times, (_, counts)) in self.rows.iter_mut().zip(ROWS) {
@@ -150,10 +238,10 @@ impl Tally {
     }
 
     /// Whether everything that says something of the files comes up once in 200 pairs. ROOM says
-    /// nothing of them, and NEGATED is never given.
+    /// nothing of them, and NEGATED and the text reader's numbers are never given.
     pub fn is_mixed(&self) -> bool {
         let count: u64 = self.numbers.iter().sum();
-        let other = [ROOM, NEGATED].map(usize::from);
+        let other = [ROOM, NEGATED, 14, 15, 16].map(usize::from);
         let numbers = self.numbers.iter().enumerate().filter(|(n, _)| !other.contains(n));
         numbers.map(|(_, times)| times).chain(&self.rows).all(|times| times * 200 >= count)
     }

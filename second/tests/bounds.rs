@@ -6,8 +6,8 @@ use common::judge;
 use second::*;
 
 /// The greatest step, fact, rounds, held, start, length and round of each verdict.
-fn greatest() -> [[usize; 7]; 14] {
-    let mut most = [[0; 7]; 14];
+fn greatest() -> [[usize; 7]; NAMES.len()] {
+    let mut most = [[0; 7]; NAMES.len()];
     // Eight turns have each kind in most of its ways.
     for index in (gen::AT_BOUNDS - 1..10_000).step_by(gen::AT_BOUNDS as usize) {
         let pair = gen::pair(1, index);
@@ -31,7 +31,7 @@ fn every_field_of_every_verdict_gets_large() {
     };
     large(ATTACK, &[0, 2, 3]);
     large(LONG, &[5]);
-    [SHAPE, COUNT, FACT, ORDER, BADNAME].iter().for_each(|number| large(*number, &[4, 5]));
+    [SHAPE, COUNT, FACT, ORDER, BADNAME, FORMULA].iter().for_each(|number| large(*number, &[4, 5]));
     // A name has 2 bytes.
     large(NAME, &[4]);
     [BLOCKED, NOATTACK].iter().for_each(|number| large(*number, &[0, 1, 2, 3, 4, 6]));

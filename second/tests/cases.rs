@@ -15,6 +15,7 @@ fn desk_bytes() {
         clauses: vec![clause(2, &[0, 1]), clause(5, &[2, 4])],
         rules: vec![rule(&[5], &[3], &[3]), rule(&[0], &[], &[]), rule(&[1], &[], &[1])],
         attacks: vec![attack(&[3, 5], &[]), attack(&[4], &[0])],
+        formulas: None,
     };
     let bytes = write_model(&desk);
     assert_eq!((bytes.len(), &bytes), (101, &hex(DESK)));
@@ -250,8 +251,8 @@ fn closing_by_itself() {
 
 #[test]
 fn counting_by_itself() {
-    let has = |model: &[u8], [facts, clauses, rules, attacks]: [usize; 4]| {
-        assert_eq!(count_api(model), Ok(Counts { facts, clauses, rules, attacks }));
+    let has = |model: &[u8], [facts, clauses, rules, goals]: [usize; 4]| {
+        assert_eq!(count_api(model), Ok(Counts { facts, clauses, rules, goals }));
     };
     let desk = hex(DESK);
     has(&desk, [6, 2, 3, 2]);

@@ -36,7 +36,7 @@ const ROWS: &[Row] = &[
     // The whole file, whatever it holds.
     ("long model", LONG, MODEL, From(0), |f| f.model.resize(65_537, 0)),
     ("long trace", LONG, TRACE, From(0), |f| f.trace.resize(4_097, 0)),
-    ("model version", VERSION, MODEL, At(0, 1), |f| f.model[0] = 4),
+    ("model version", VERSION, MODEL, At(0, 1), |f| f.model[0] = 5),
     ("trace version", VERSION, TRACE, At(0, 1), |f| f.trace[0] = 0),
     // Sizes: length at 1, payload at 5. A length of 3 fits the file, so the payload is blamed.
     ("sizes length", SHAPE, MODEL, From(1), |f| f.model[1] = 0xFF),

@@ -23,6 +23,7 @@ fn mint() -> Model {
         clauses: vec![clause(1, &[0])],
         rules: vec![making(&[4, 7]), Rule { pos: vec![1], ..making(&[3]) }],
         attacks: vec![attack(&[1], &[])],
+        formulas: None,
     }
 }
 
@@ -319,12 +320,9 @@ fn only_version_3_has_a_fourth_list() {
     assert_eq!(place(judge(&model, &write_trace(0, &[]))), (SHAPE, MODEL, 73, 8));
 }
 
-type Row = (&'static str, u8, usize, Option<usize>, fn(&mut Vec<u8>));
-
-/// In the order in which they are judged, each with the start and the length of the bytes at fault;
-/// without a length they go up to the file's end.
+/// In the order in which they are judged.
 const ROWS: &[Row] = &[
-    ("version 4", VERSION, 0, Some(1), |m| m[0] = 4),
+    ("version 5", VERSION, 0, Some(1), |m| m[0] = 5),
     ("F of 4,098", COUNT, 5, Some(2), |m| m[5] = 0x10),
     ("persistent 2", FACT, 17, Some(2), |m| m[18] = 2),
     ("length", SHAPE, 19, None, |m| m[19] = 0xFF),
@@ -346,22 +344,7 @@ const ROWS: &[Row] = &[
 #[test]
 fn names_are_judged_where_they_stand() {
     assert_eq!(judge(&hex(MINT), &write_trace(0, &[0])).number, ATTACK);
-    for (index, winner) in ROWS.iter().enumerate() {
-        // Starting with the winner itself, which is then alone.
-        for loser in &ROWS[index..] {
-            let mut model = hex(MINT);
-            loser.4(&mut model);
-            winner.4(&mut model);
-            let (name, number, start, len, _) = *winner;
-            let len = len.unwrap_or(model.len() - start);
-            let what = format!("{name} before {}", loser.0);
-            let v = judge(&model, &write_trace(0, &[0]));
-            assert_eq!(place(v), (number, MODEL, start, len), "{what}");
-            // Counting and closing refuse with the same number, 12 too.
-            assert_eq!(count_api(&model), Err(number), "{what}");
-            assert_eq!(close_api(&model, &[0; 512], &mut [0; 4_096]), Err(number), "{what}");
-        }
-    }
+    the_upper_row_is_answered(&hex(MINT), ROWS);
 }
 
 #[test]
@@ -411,7 +394,7 @@ fn a_section_that_is_not_there_or_not_whole() {
 
 #[test]
 fn the_versions_that_there_are() {
-    for version in [0, 4, 5, 127, 128, 254, 255] {
+    for version in [0, 5, 6, 127, 128, 254, 255] {
         let mut other = hex(MINT);
         other[0] = version;
         let v = judge(&other, &write_trace(0, &[]));
@@ -450,7 +433,7 @@ fn an_empty_section_and_empty_lists_give_the_lines_of_version_2() {
 
 #[test]
 fn counting_and_closing_do_not_look_at_names() {
-    let counts = Counts { facts: 2, clauses: 1, rules: 2, attacks: 1 };
+    let counts = Counts { facts: 2, clauses: 1, rules: 2, goals: 1 };
     assert_eq!(count_api(&hex(MINT)), Ok(counts));
     // 0 gives 1 in round 1, whichever names are in use.
     let mut state = [0; 512];
@@ -460,7 +443,7 @@ fn counting_and_closing_do_not_look_at_names() {
     assert!(table[..2] == [0, 1] && table[2..] == [NONE; 4_094]);
     // As many as there may be of all that is counted, and of names, which are not.
     let most = Model { rules: vec![making(&[5]); 2_048], ..with(&up_to(1_024), &[]) };
-    let counts = Counts { facts: 40, clauses: 0, rules: 2_048, attacks: 1 };
+    let counts = Counts { facts: 40, clauses: 0, rules: 2_048, goals: 1 };
     assert_eq!(count_api(&write_model(&most)), Ok(counts));
 }
 

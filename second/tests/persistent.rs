@@ -22,6 +22,7 @@ fn mandate() -> Model {
         clauses: vec![clause(1, &[0])],
         rules: vec![rule(&[1], &[], &[]), rule(&[0], &[], &[])],
         attacks: vec![attack(&[1], &[])],
+        formulas: None,
     }
 }
 
@@ -180,12 +181,9 @@ fn the_desk_model_with_an_empty_section_has_its_lines() {
     }
 }
 
-type Row = (&'static str, u8, usize, Option<usize>, fn(&mut Vec<u8>));
-
-/// In the order in which they are judged, each with the start and the length of the bytes at fault;
-/// without a length they go up to the file's end.
+/// In the order in which they are judged.
 const ROWS: &[Row] = &[
-    ("version 4", VERSION, 0, Some(1), |m| m[0] = 4),
+    ("version 5", VERSION, 0, Some(1), |m| m[0] = 5),
     ("F of 4,102", COUNT, 5, Some(2), |m| m[5] = 0x10),
     ("initial 1 1 4", ORDER, 11, Some(6), |m| m[12] = 1),
     ("length", SHAPE, 17, None, |m| m[17] = 0xFF),
@@ -201,21 +199,7 @@ const ROWS: &[Row] = &[
 #[test]
 fn the_section_is_judged_between_the_initial_facts_and_the_clauses() {
     assert_eq!(judge(&desk(), &write_trace(0, &[0])).number, ATTACK);
-    for (index, winner) in ROWS.iter().enumerate() {
-        // Starting with the winner itself, which is then alone.
-        for loser in &ROWS[index..] {
-            let mut model = desk();
-            loser.4(&mut model);
-            winner.4(&mut model);
-            let (name, number, start, len, _) = *winner;
-            let (len, what) =
-                (len.unwrap_or(model.len() - start), format!("{name} before {}", loser.0));
-            let v = judge(&model, &write_trace(0, &[0]));
-            assert_eq!(place(v), (number, MODEL, start, len), "{what}");
-            assert_eq!(count_api(&model), Err(number), "{what}");
-            assert_eq!(close_api(&model, &[0; 512], &mut [0; 4_096]), Err(number), "{what}");
-        }
-    }
+    the_upper_row_is_answered(&desk(), ROWS);
 }
 
 /// A model of version 2 and 3 facts that ends after the bytes given, which follow the initial facts
@@ -276,7 +260,7 @@ fn heads_and_facts_never_stored_may_be_persistent() {
 #[test]
 fn the_versions_that_there_are() {
     for model in [hex(DESK), desk()] {
-        for version in [0, 4, 5, 127, 128, 254, 255] {
+        for version in [0, 5, 6, 127, 128, 254, 255] {
             let mut other = model.clone();
             other[0] = version;
             let v = judge(&other, &write_trace(0, &[]));
@@ -303,7 +287,7 @@ fn the_versions_that_there_are() {
 
 #[test]
 fn counting_and_closing_are_the_same_for_both_versions() {
-    let counts = Counts { facts: 6, clauses: 2, rules: 3, attacks: 2 };
+    let counts = Counts { facts: 6, clauses: 2, rules: 3, goals: 2 };
     assert_eq!([count_api(&hex(DESK)), count_api(&desk())], [Ok(counts); 2]);
     // 0, 1 and 4: 2 in round 1, 5 in round 2, persistent or not.
     let mut state = [0; 512];

@@ -150,8 +150,8 @@ pub fn count(model: &[u8], few: usize) -> Result<Result<Counts, u8>, String> {
     let mut out_2 = out.clone();
     let number = cantivorex::count_into(model, inside(&mut out));
     let answer = second::count_api(model);
-    if let Ok(Counts { facts, clauses, rules, attacks }) = answer {
-        let figures = [facts, clauses, rules, attacks].map(|n| n as u64);
+    if let Ok(Counts { facts, clauses, rules, goals }) = answer {
+        let figures = [facts, clauses, rules, goals].map(|n| n as u64);
         inside(&mut out_2)[..FIGURES].copy_from_slice(&figures);
     }
     same("the count's number", number, answer.err().unwrap_or(0))?;

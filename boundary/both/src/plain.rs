@@ -1,4 +1,4 @@
-//! A plain Rust reader of a model in place, to measure against: the number of 2 to 7 or 12, or 0,
+//! A plain Rust reader of a model in place, to measure against: the number of 2 to 7, 12 or 17, or 0,
 //! without lists and without places.
 
 /// Of two faults of a record the one that is judged first; 0 is none.
@@ -81,6 +81,45 @@ fn lists_fault(record: &[u8], lists: &[Below]) -> u8 {
     }
 }
 
+/// 4 to 6 and 17 of a formula.
+fn formula_fault(codes: &[u8], facts: Below) -> u8 {
+    if codes.len() % 2 == 1 {
+        return 4;
+    }
+    if codes.len() > 2 * 255 {
+        return 5;
+    }
+    if codes.chunks_exact(2).map(word).any(|code| code < 32_768 && code >= facts.0) {
+        return 6;
+    }
+    if is_formula(codes) {
+        0
+    } else {
+        17
+    }
+}
+
+/// Whether at most 255 codes are one formula, from the last on, with the depths of the parts that wait.
+fn is_formula(codes: &[u8]) -> bool {
+    let (mut depths, mut waiting) = ([0; 255], 0);
+    for code in codes.chunks_exact(2).rev().map(word) {
+        let parts = match code {
+            0..=32_767 => 0,
+            32_768 | 32_772..=32_774 => 1,
+            32_769..=32_771 | 32_775 => 2,
+            _ => return false,
+        };
+        if waiting < parts {
+            return false;
+        }
+        waiting -= parts;
+        let deepest = depths[waiting..waiting + parts].iter().max().copied().unwrap_or(0);
+        depths[waiting] = deepest + 1;
+        waiting += 1;
+    }
+    waiting == 1 && depths[0] <= 32
+}
+
 fn records(section: &[u8], most: usize, fault_of: impl Fn(&[u8]) -> u8) -> u8 {
     let (mut rest, mut index) = (section, 0);
     while !rest.is_empty() {
@@ -100,7 +139,7 @@ pub fn judge(model: &[u8]) -> u8 {
         return 2;
     }
     match model.first() {
-        Some(version @ 1..=3) => judge_sections(*version, &model[1..]).err().unwrap_or(0),
+        Some(version @ 1..=4) => judge_sections(*version, &model[1..]).err().unwrap_or(0),
         _ => 3,
     }
 }
@@ -118,8 +157,8 @@ fn judge_sections(version: u8, mut rest: &[u8]) -> Result<(), u8> {
     none(if sizes.len() == 2 { 0 } else { 4 })?;
     let facts = Below(word(sizes), 6);
     none(if facts.0 > 4_096 { 5 } else { 0 })?;
-    // The initial facts; version 2 has persistent facts after them, version 3 names after those.
-    for below in &[facts, facts, NAMES][..version as usize] {
+    // The initial facts; from version 2 on persistent facts after them, from version 3 on names after those.
+    for below in [facts, facts, NAMES].iter().take(version as usize) {
         let bare = section(&mut rest).ok_or(4)?;
         none(if bare.len() % 2 == 1 { 4 } else { list_fault(bare, *below) })?;
     }
@@ -131,6 +170,10 @@ fn judge_sections(version: u8, mut rest: &[u8]) -> Result<(), u8> {
     none(records(rules, 2_048, |rule| lists_fault(rule, of_a_rule)))?;
     let goals = section(&mut rest).ok_or(4)?;
     none(records(goals, 64, |goal| lists_fault(goal, &lists[..2])))?;
+    if version > 3 {
+        let formulas = section(&mut rest).ok_or(4)?;
+        none(records(formulas, 64, |formula| formula_fault(formula, facts)))?;
+    }
     none(if rest.is_empty() { 0 } else { 4 })
 }
 

@@ -1,5 +1,5 @@
 //! The second program's own tests, run through both programs: cases A to L, the edges, every fault and every two faults
-//! together, versions 2 and 3.
+//! together, versions 2 to 4.
 //! Those tests say `second`; here that is this file, whose `check`, `close_api` and `count_api` make each call of both
 //! and compare.
 
@@ -10,6 +10,8 @@ extern crate self as second;
 mod cases;
 #[path = "../../../second/tests/faults.rs"]
 mod faults;
+#[path = "../../../second/tests/formulas.rs"]
+mod formulas;
 #[path = "../../../second/tests/names.rs"]
 mod names;
 #[path = "../../../second/tests/persistent.rs"]

@@ -1,6 +1,6 @@
 //! The edges of document 01: a pair on each side of every bound and one for each fault, through the proved library; the
-//! same for versions 2 and 3, and what a step does to persistent facts and to names; and what models have. What must
-//! come out was worked out by hand: EDGES.md has the reasoning, edges.txt, effects.txt and figures.txt the lines.
+//! same for versions 2 to 4, what a step does to persistent facts and to names, what formulas say; and what models have.
+//! What must come out was worked out by hand: EDGES.md has the reasoning, edges.txt, effects.txt and figures.txt the lines.
 
 use cantivorex::{Counts, Verdict, NAMES_BYTES, STATE_BYTES, TABLE_ENTRIES};
 use second::gen::{write_model, write_trace};
@@ -79,6 +79,25 @@ fn named(change: impl FnOnce(&mut Lists)) -> Files {
 fn makes(names: Vec<u16>) -> Files {
     named(|l| l.model.rules[0].names = names)
 }
+
+/// The plain pair with its model as version 4 and these formulas.
+fn formulas(all: Vec<Vec<u16>>) -> Files {
+    named(|l| l.model.formulas = Some(all))
+}
+
+/// The same with one formula.
+fn formula(codes: &[u16]) -> Files {
+    formulas(vec![codes.to_vec()])
+}
+
+const NOT: u16 = 32_768;
+const AND: u16 = 32_769;
+const OR: u16 = 32_770;
+const IMPLIES: u16 = 32_771;
+const YESTERDAY: u16 = 32_772;
+const ONCE: u16 = 32_773;
+const HISTORICALLY: u16 = 32_774;
+const SINCE: u16 = 32_775;
 
 /// Changes to the written bytes.
 impl Files {
@@ -207,7 +226,7 @@ fn other_faults() -> Vec<Case> {
         ("the last byte missing", plain().model_of(44)),
         ("one byte more", plain().model_of(46)),
         ("the trace's last byte missing", plain().trace_of(8)),
-        ("version 4", plain().model_version(4)),
+        ("version 5", plain().model_version(5)),
         ("a fact twice in a rule's P", in_rule(|r| r.pos = vec![0, 0])),
         ("a head in a rule's N", listed(head_in_n)),
         ("an attack state that is missing", listed(|l| l.goal = 1)),
@@ -270,12 +289,12 @@ fn too_many_facts(lists: &mut Lists) {
 
 fn the_first_of_two() -> Vec<Case> {
     let many_steps = listed(|l| repeat(&mut l.steps, 1_025)).trace_of(2_058);
-    let long_trace = plain().trace_of(4_097).model_version(4);
+    let long_trace = plain().trace_of(4_097).model_version(5);
     let newer_trace = plain().trace_version(2).model_of(44);
     vec![
         ("F 4097 and initial fact 4097", listed(too_many_facts)),
         ("1025 steps and a byte more", many_steps),
-        ("a trace of 4097 bytes and a model of version 4", long_trace),
+        ("a trace of 4097 bytes and a model of version 5", long_trace),
         ("a trace of version 2 and a model's last byte missing", newer_trace),
     ]
 }
@@ -436,6 +455,133 @@ fn names_and_another() -> Vec<Case> {
     ]
 }
 
+fn version_4() -> Vec<Case> {
+    vec![
+        ("version 4 without its sections", plain().model_version(4)),
+        ("version 4 without the formulas' section", in_use(vec![]).model_version(4)),
+        ("version 3 with the formulas' section", formula(&[5]).model_version(3)),
+        ("a trace of version 4 and a model of version 4", formulas(vec![]).trace_version(4)),
+    ]
+}
+
+fn the_section_of_formulas() -> Vec<Case> {
+    vec![
+        ("no formula", formulas(vec![])),
+        ("the formulas' length too long", formulas(vec![]).with(57, 58, &[1])),
+        ("three bytes of the formulas' length", formulas(vec![]).model_of(58)),
+        ("one byte after the formulas", formulas(vec![]).model_of(60)),
+        ("half a formula's length", formulas(vec![]).with(55, 59, &[0, 0, 0, 1, 0])),
+        ("a formula's length too long", formula(&[0]).with(59, 61, &[0, 3])),
+        ("64 formulas", formulas(vec![vec![0]; 64])),
+        ("65 formulas", formulas(vec![vec![0]; 65])),
+        ("a full model of version 4", listed(full_4)),
+    ]
+}
+
+/// The longest model of version 4 without a fault.
+fn full_4(lists: &mut Lists) {
+    full_3(lists);
+    lists.model.initial = facts(0, 917);
+    lists.model.formulas = Some(vec![vec![0]; 64]);
+}
+
+/// So many parts under one operator, as flat as can be; all of them are fact 0.
+fn flat(parts: usize) -> Vec<u16> {
+    match parts {
+        1 => vec![0],
+        _ => [vec![OR], flat(parts / 2), flat(parts - parts / 2)].concat(),
+    }
+}
+
+/// A formula so deep, of nots or of ands along their first parts or their second.
+fn nots(deep: usize) -> Vec<u16> {
+    [vec![NOT; deep - 1], vec![0]].concat()
+}
+
+fn along_first(deep: usize) -> Vec<u16> {
+    [vec![AND; deep - 1], vec![0; deep]].concat()
+}
+
+fn along_second(deep: usize) -> Vec<u16> {
+    [[AND, 0].repeat(deep - 1), vec![0]].concat()
+}
+
+fn codes_of_a_formula() -> Vec<Case> {
+    vec![
+        ("a formula of no code", formula(&[])),
+        ("half a code", formulas(vec![]).with(55, 59, &[0, 0, 0, 3, 0, 1, 0])),
+        ("a code and a half", formulas(vec![]).with(55, 59, &[0, 0, 0, 5, 0, 3, 0, 0, 0])),
+        ("fact F-1 in a formula", formula(&[39])),
+        ("fact F in a formula", formula(&[40])),
+        ("fact 32767 in a formula", formula(&[32_767])),
+        ("255 codes", formula(&flat(128))),
+        ("256 codes", formula(&[vec![NOT], flat(128)].concat())),
+        ("32 deep", formula(&nots(32))),
+        ("33 deep", formula(&nots(33))),
+        ("32 deep along first parts", formula(&along_first(32))),
+        ("33 deep along first parts", formula(&along_first(33))),
+        ("32 deep along second parts", formula(&along_second(32))),
+        ("33 deep along second parts", formula(&along_second(33))),
+        ("code 32775", formula(&[32_775, 0, 0])),
+        ("code 32776", formula(&[32_776, 0, 0])),
+        ("code 65535", formula(&[65_535])),
+        ("an operator without its part", formula(&[NOT])),
+        ("an operator of two with one part", formula(&[AND, 0])),
+        ("a code after the end", formula(&[0, 0])),
+    ]
+}
+
+/// Two faults, one of them of a formula.
+fn formulas_and_another() -> Vec<Case> {
+    let many = [vec![NOT], flat(128)].concat();
+    let far = [&many[..255], &[40]].concat();
+    let deep = [vec![NOT; 32], vec![40]].concat();
+    let attack_too = named(|l| {
+        l.model.attacks[0].pos = vec![40];
+        l.model.formulas = Some(vec![vec![40]]);
+    });
+    let goal_too = named(|l| (l.model.formulas, l.goal) = (Some(vec![vec![]]), 2));
+    // The section's length and the record's, and half a code.
+    let and_a_half = formula(&many).with(55, 61, &[0, 0, 2, 3, 2, 1]).model_of(574);
+    let last = |codes: &[u16]| {
+        let all = [vec![vec![0]; 64], vec![codes.to_vec()]].concat();
+        formulas(all)
+    };
+    let half = last(&[]).with(55, 59, &[0, 0, 1, 3]).with(315, 317, &[0, 1, 0]);
+    vec![
+        ("fact F after the end", formula(&[0, 40])),
+        ("fact F and code 32776", formula(&[32_776, 40])),
+        ("fact F and 33 deep", formula(&deep)),
+        ("256 codes, the last fact F", formula(&far)),
+        ("256 codes and a half", and_a_half),
+        ("a 65th formula of no code", last(&[])),
+        ("a 65th formula of half a code", half),
+        ("fact F in an attack state and in a formula", attack_too),
+        ("a formula of no code and a goal that is missing", goal_too),
+        ("a formula of no code and a byte more", formula(&[]).model_of(62)),
+    ]
+}
+
+/// So many attack states and formulas, and a goal.
+fn goal_of(attacks: usize, formulas: usize, goal: u16) -> Files {
+    named(|l| {
+        repeat(&mut l.model.attacks, attacks);
+        l.model.formulas = Some(vec![vec![0]; formulas]);
+        l.goal = goal;
+    })
+}
+
+fn numbers_of_goals() -> Vec<Case> {
+    vec![
+        ("a formula as the goal", goal_of(1, 1, 1)),
+        ("a goal after the formula", goal_of(1, 1, 2)),
+        ("a goal after no formula", goal_of(1, 0, 1)),
+        ("the last of 64 and 64 goals", goal_of(64, 64, 127)),
+        ("a goal after 64 and 64", goal_of(64, 64, 128)),
+        ("a formula and no attack state", goal_of(0, 1, 0)),
+    ]
+}
+
 /// Models whose figures tell what is counted: records and not bytes, F and not the initial facts.
 fn what_is_counted() -> Vec<Case> {
     let two_clauses = listed(|l| l.model.clauses.push(Clause { head: 0, body: facts(0, 16) }));
@@ -476,6 +622,11 @@ fn models() -> Vec<Case> {
         names_in_use,
         names_that_a_rule_makes,
         names_and_another,
+        version_4,
+        the_section_of_formulas,
+        codes_of_a_formula,
+        formulas_and_another,
+        numbers_of_goals,
     ];
     groups.iter().flat_map(|group| group()).collect()
 }
@@ -499,6 +650,11 @@ fn cases() -> Vec<Case> {
         names_in_use,
         names_that_a_rule_makes,
         names_and_another,
+        version_4,
+        the_section_of_formulas,
+        codes_of_a_formula,
+        formulas_and_another,
+        numbers_of_goals,
     ];
     groups.iter().flat_map(|group| group()).collect()
 }
@@ -638,6 +794,53 @@ fn effects_of_names() -> Vec<Case> {
     ]
 }
 
+/// The pair of the effects as version 4: one formula, which is the goal, and these steps. Rule 2 does nothing.
+fn asked(codes: &[u16], steps: &[u16]) -> Files {
+    effect(|l| {
+        l.model.formulas = Some(vec![codes.to_vec()]);
+        l.model.rules.push(rule(&[], &[]));
+        (l.goal, l.steps) = (1, steps.to_vec());
+    })
+}
+
+fn used_before(lists: &mut Lists) {
+    lists.model.names = Some(vec![5]);
+    lists.model.rules[0].names = vec![5];
+    lists.model.formulas = Some(vec![vec![NOT, 1]]);
+    lists.goal = 1;
+}
+
+/// In the order of EDGES.md.
+fn effects_of_formulas() -> Vec<Case> {
+    let thousand = [vec![0], vec![2; 1_023]].concat();
+    let attack_state = effect(|l| l.model.formulas = Some(vec![vec![1]]));
+    vec![
+        ("a fact that went", asked(&[1], &[0])),
+        ("a fact that is derived", asked(&[2], &[0])),
+        ("not a fact that is derived", asked(&[NOT, 2], &[0])),
+        ("and with one that went", asked(&[AND, 0, 1], &[0])),
+        ("or with one that went", asked(&[OR, 1, 0], &[0])),
+        ("implied by one that went", asked(&[IMPLIES, 1, 3], &[0])),
+        ("implying one that went", asked(&[IMPLIES, 0, 1], &[0])),
+        ("yesterday", asked(&[YESTERDAY, 1], &[0])),
+        ("yesterday in the initial state", asked(&[YESTERDAY, 0], &[])),
+        ("once", asked(&[ONCE, 1], &[0, 1])),
+        ("once now", asked(&[ONCE, 1], &[])),
+        ("once and never", asked(&[ONCE, 3], &[0, 1])),
+        ("historically", asked(&[HISTORICALLY, 2], &[0])),
+        ("historically but now", asked(&[HISTORICALLY, 2], &[0, 1])),
+        ("since now", asked(&[SINCE, 3, 0], &[0])),
+        ("since the initial state", asked(&[SINCE, 0, 1], &[0])),
+        ("since the initial state and no longer", asked(&[SINCE, 1, 1], &[0])),
+        ("not there since it was", asked(&[SINCE, NOT, 2, 2], &[0, 1])),
+        ("a thousand steps since", asked(&[SINCE, 0, 1], &thousand)),
+        ("a thousand steps and not since", asked(&[SINCE, 3, 1], &thousand)),
+        ("a step that is blocked before", asked(&[1], &[0, 0])),
+        ("a name in use before", effect(used_before)),
+        ("an attack state beside a formula", attack_state),
+    ]
+}
+
 fn verdict(files: &Files) -> Verdict {
     let (mut state, mut table) = ([0; STATE_BYTES], [0; TABLE_ENTRIES]);
     cantivorex::check(&files.model, &files.trace, &mut state, &mut table, &mut [0; NAMES_BYTES])
@@ -699,6 +902,24 @@ fn the_plain_pair_is_the_one_of_the_page() {
     ];
     let model = format!("03{}", sections.concat()).replace(' ', "");
     assert_eq!(hex(&in_use(vec![]).model), model);
+    let model = format!("04{}00000000", sections.concat()).replace(' ', "");
+    assert_eq!(hex(&formulas(vec![]).model), model);
+}
+
+/// A formula that is true is the goal: its record with its length, whichever it is of 64.
+#[test]
+fn a_true_formula_s_record_is_handed_back() {
+    let of = |codes: &[u16]| {
+        named(|l| {
+            l.model.formulas = Some(vec![codes.to_vec(); 64]);
+            (l.goal, l.steps) = (64, vec![]);
+        })
+    };
+    let place = |v: Verdict| (v.number, v.mark, v.start, v.size);
+    // Records of 6 bytes, the first at 59, and of 514.
+    assert_eq!(place(verdict(&of(&[NOT, 0]))), (11, 0, 59 + 63 * 6, 6));
+    let full = [&[IMPLIES, 0][..], &flat(127)].concat();
+    assert_eq!(place(verdict(&of(&full))), (11, 0, 59 + 63 * 512, 512));
 }
 
 #[test]
@@ -708,7 +929,8 @@ fn every_edge_gives_what_was_worked_out_by_hand() {
 
 #[test]
 fn every_effect_is_what_was_worked_out_by_hand() {
-    let all: Vec<Case> = effects().into_iter().chain(effects_of_names()).collect();
+    let groups = [effects, effects_of_names, effects_of_formulas];
+    let all: Vec<Case> = groups.iter().flat_map(|group| group()).collect();
     agree(&all, whole_line, include_str!("effects.txt"));
 }
 

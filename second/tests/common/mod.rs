@@ -25,12 +25,15 @@ pub fn judge_in(model: &[u8], trace: &[u8], room: Room) -> Verdict {
     let (mut state, mut table) = (vec![0xA5; room.0], vec![0x5A5A; room.1]);
     let mut names = vec![0x3C; room.2];
     let v = check(model, trace, &mut state, &mut table, &mut names);
-    let refused = (1..=9).contains(&v.number) || v.number == BADNAME;
+    let refused = (1..=9).contains(&v.number) || v.number == BADNAME || v.number == FORMULA;
     if refused {
         assert_eq!((v.step, v.fact, v.rounds, v.held), (0, NONE, 0, 0));
     }
-    // Only an unmet condition has a kind. A fact of P has no round in the table, one of N has.
-    let is_unmet = v.number == BLOCKED || v.number == NOATTACK;
+    // Only an unmet condition has a kind. A fact of P has no round in the table, one of N has. A
+    // formula that is true has no fact, and only version 4 has formulas.
+    let is_true = v.number == NOATTACK && v.fact == NONE;
+    assert!(!is_true || model[0] == 4);
+    let is_unmet = v.number == BLOCKED || v.number == NOATTACK && !is_true;
     let round = if is_unmet { table[v.fact as usize] } else { NONE };
     let kind = [NO_KIND, if round == NONE { POSITIVE } else { NEGATIVE }][is_unmet as usize];
     // And a name that is used isn't one.
@@ -91,4 +94,28 @@ pub fn is_longest(model: &Model) {
     assert_eq!(place(judge(&bytes, &trace)), (SHAPE, MODEL, 65_535, 1));
     bytes.push(0);
     assert_eq!(place(judge(&bytes, &trace)), (LONG, MODEL, 0, 65_537));
+}
+
+/// A fault of a model: its name, its number, and the start and the length of its bytes; without a
+/// length they go up to the file's end.
+pub type Row = (&'static str, u8, usize, Option<usize>, fn(&mut Vec<u8>));
+
+/// Of any two faults of a sound model the upper row is answered, and so is each row alone. Counting
+/// and closing refuse with the same number.
+pub fn the_upper_row_is_answered(sound: &[u8], rows: &[Row]) {
+    for (index, winner) in rows.iter().enumerate() {
+        // Starting with the winner itself, which is then alone.
+        for loser in &rows[index..] {
+            let mut model = sound.to_vec();
+            loser.4(&mut model);
+            winner.4(&mut model);
+            let (name, number, start, len, _) = *winner;
+            let len = len.unwrap_or(model.len() - start);
+            let what = format!("{name} before {}", loser.0);
+            let v = judge(&model, &write_trace(0, &[0]));
+            assert_eq!(place(v), (number, MODEL, start, len), "{what}");
+            assert_eq!(count_api(&model), Err(number), "{what}");
+            assert_eq!(close_api(&model, &[0; 512], &mut [0; 4_096]), Err(number), "{what}");
+        }
+    }
 }

@@ -30,7 +30,7 @@ fn main() {
     println!("\nWhole checks, against the second program's check");
     head();
     checks(&desk);
-    println!("\nVersions 2 and 3 with the library, against the library");
+    println!("\nVersions 2 to 4 with the library, against the library");
     head();
     versions(&desk);
     println!("\nHow the time grows: closing, ns");
@@ -200,12 +200,12 @@ fn checks(desk: &Model) {
     );
 }
 
-/// What later versions cost: empty sections and lists against none, all facts against none of them, and a name in each
-/// step against none.
+/// What later versions cost: empty sections and lists against none, all facts against none of them, a name in each step
+/// against none, and the longest formula against an attack state.
 fn versions(desk: &Model) {
     let night: Vec<_> =
         (0..).map(|i| gen::sound(11, i)).filter(|p| p.model[0] == 1).take(200).collect();
-    for version in [2, 3] {
+    for version in [2, 3, 4] {
         let newer = as_version(version, desk.clone());
         for (case, trace) in [("A", write_trace(0, &[0])), ("B", write_trace(0, &[1, 0]))] {
             let name = format!("desk model, case {case}, as version {version}");
@@ -232,12 +232,35 @@ fn versions(desk: &Model) {
     against("4,096 persistent, 1,024 steps of 32 in P", &all, &asking(Some(vec![])), &trace);
     against("the same against version 1", &all, &asking(None), &trace);
     check("the same against the second program", &[(write_model(&all), trace)]);
+    let model = write_model(&remembering());
+    let [formula, state] = [1, 0].map(|goal| {
+        let (trace, mut lent) = (write_trace(goal, &[0; 1_024]), Lent::new());
+        let model = &model;
+        move || lent.library(black_box(model), &trace).rounds as u64
+    });
+    race("1,024 steps, a formula of 255 codes as the goal", formula, state);
 }
 
-/// A model of version 1 as one of another, without persistent facts and without names.
+/// A rule without conditions and effect, an attack state, and a formula of as many codes as there may be.
+fn remembering() -> Model {
+    let formulas = Some(vec![since(8)]);
+    let model = Model { rules: vec![Rule::default()], ..with(40, vec![0], vec![]) };
+    Model { formulas, ..as_version(3, model) }
+}
+
+/// Since over Since, so many deep: twice as many codes with each level.
+fn since(deep: u16) -> Vec<u16> {
+    if deep == 1 {
+        return vec![0];
+    }
+    [vec![32_775], since(deep - 1), since(deep - 1)].concat()
+}
+
+/// A model of version 1 as one of another, without persistent facts, without names and without formulas.
 fn as_version(version: u8, model: Model) -> Model {
     let [persistent, names] = [2, 3].map(|since| (version >= since).then(Vec::new));
-    Model { persistent, names, ..model }
+    let formulas = (version >= 4).then(Vec::new);
+    Model { persistent, names, formulas, ..model }
 }
 
 /// The library with two models and one trace.

@@ -14,7 +14,7 @@ use Rattle.sets.proofs.Laws.{passes, is-true, is-false, both, listed-is, getD-i
 use Rattle.records.specs.Words.{ascending}
 
 -- What follows the first is ascending,
-rest-ascending : (x : ℕ) (xs : List ℕ) → ascending (x ∷ xs) ≡ true → ascending xs ≡ true
+pub rest-ascending : (x : ℕ) (xs : List ℕ) → ascending (x ∷ xs) ≡ true → ascending xs ≡ true
 unfolding ascending
 rest-ascending x [] e = refl
 rest-ascending x (y ∷ ys) e = is-true (both (ltb x y) (ascending (y ∷ ys)) .0 (passes e) .1)

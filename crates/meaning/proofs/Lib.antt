@@ -1,5 +1,8 @@
 pub mod Counting
 pub mod Closing
+pub mod Places
+pub mod Arriving
+pub mod Worklist
 pub mod Meeting
 pub mod Reaching
 pub mod Runs

@@ -1,12 +1,12 @@
--- What demands 2 and 3 promise (specs/Promises), proved: each theorem in one place, the work in the files beside this
--- one.
+-- What demands 2 and 3 promise (specs/Promises) and what document 02 says of the worklist (wish 5), proved: each theorem
+-- in one place, the work in the files beside this one.
 use Prim.Native.Nat.{ℕ, zero, suc, _+_, _-_, _≤_, _<_}
 use native.Mathlib.Numerals.{add-one}
 use native.Mathlib.Omega.{arith}
 use mathlib.Core.Path.{_≡_, refl, sym, _∙_, ap}
 use mathlib.Core.Logic.{_↔_, _⊎_, inl, inr}
-use mathlib.Core.Bool.{Bool, false, not, _&&_, _||_, and-true}
-use mathlib.Core.List.{List, [], _∷_, _++_, List·Memᴰ·head, List·Memᴰ·not-nil, Memᴰ·append-right}
+use mathlib.Core.Bool.{Bool, true, false, not, _&&_, _||_, and-true}
+use mathlib.Core.List.{List, [], _∷_, _++_, List·Nodup, List·Memᴰ·head, List·Memᴰ·not-nil, Memᴰ·append-right}
 use mathlib.Core.Option.{none, some}
 use lib.Dec.{T, eqb, ltb, ltb→lt, lt→ltb}
 use lib.ListN.{length, getD, take, drop, length-append, List·getD-eq-default}
@@ -16,6 +16,8 @@ use Rattle.meaning.specs.Past.Formula.{fact, negation, either, implies, 
 use Rattle.meaning.specs.Model.{Clause, Rule, Goal, Model, Trace, State, ruleOf, aims, aimOf, start}
 use Rattle.meaning.specs.Model.Aim.{state, formula}
 use Rattle.meaning.specs.Rounds.{round, rounds, closure, roundNumber, missingHeads}
+use Rattle.meaning.specs.Worklist.{indexBelow, bodyPlaces, placesIn, begun, worked, takes, steps}
+use Rattle.meaning.specs.Working.{Known}
 use Rattle.meaning.specs.Run.{conditions, find, unmet, unmetOf, after, Ending, Outcome, run, named}
 use Rattle.meaning.specs.Run.Condition.{positive, negative, unused}
 use Rattle.meaning.specs.Published.{HC, Meets, Fresh, Transition, Path, earlier, GoalMet, TrueAttack}
@@ -28,6 +30,9 @@ use Rattle.sets.proofs.Laws.{passes, fails, by-test, both, every-in, every-intr
 use Rattle.sets.proofs.Laws.{below-or-from, getD-in, listed-is}
 use Rattle.meaning.proofs.Closing
 use Rattle.meaning.proofs.Histories
+use Rattle.meaning.proofs.Places.{places-le, index-is}
+use Rattle.meaning.proofs.Worklist.{steps-counted, worked-rests, rests-all, rests-closure, rests-number}
+use Rattle.meaning.proofs.Worklist.{rests-latest, rests-crossings}
 use Rattle.meaning.proofs.Meeting.{unmet-none, unmet-some, first-absent, first-present, first-used, not-blocked}
 use Rattle.meaning.proofs.Reaching.{afterRule, after-is, unmetOf-is, fires, run-is-from}
 use Rattle.meaning.proofs.Running.{fired-met, fired-after, is-run-from, path-sum, path-past, path-rules}
@@ -454,3 +459,38 @@ always-true = Histories.always-true
 -- A formula without Yesterday, Once, Historically and Since depends on the last state alone.
 pub last-alone : (p : Formula) → Pastless p → (X : Facts) (h h' : History) → truth p (X ∷ h) ≡ truth p (X ∷ h')
 last-alone = Histories.last-alone
+
+-- of closing by a worklist (document 02, wish 5): the clauses and the state of a judged model
+module _ {cs : List Clause} {S : Facts} (known : Known cs S) where
+  -- "Round numbers .. equal the old ones": every fact's, ..
+  pub worked-numbers : (f : ℕ) → worked cs S .number f ≡ roundNumber cs S f
+  worked-numbers = let (s, e) = worked-rests known in rests-number known s e
+
+  -- .. and so does the number of rounds.
+  pub worked-rounds : worked cs S .latest ≡ rounds cs S
+  worked-rounds = let (s, e) = worked-rests known in rests-latest known s e
+
+  -- None waits at the end.
+  pub worked-done : worked cs S .queue ≡ []
+  worked-done = worked-rests known .1
+
+  -- "once, when its fact arrives": no fact is taken twice, and those taken are the closure.
+  pub taken-once : List·Nodup (takes 4096 cs (begun cs S))
+      × ((f : ℕ) → listed (takes 4096 cs (begun cs S)) f ≡ closure cs S f)
+  taken-once = let (s, e) = worked-rests known in (rests-all known s e .once, rests-closure known s e)
+
+  -- The count of crossings equals "the number of body places whose fact is in the closure", ..
+  pub worked-crossings : worked cs S .crossings ≡ placesIn (closure cs S) cs
+  worked-crossings = let (s, e) = worked-rests known in rests-crossings known s e
+
+  -- .. so "it is at most the model's body places", ..
+  pub crossings-bound : worked cs S .crossings ≤ bodyPlaces cs
+  crossings-bound = rw worked-crossings (places-le (closure cs S) cs)
+
+  -- .. of each of which the index holds the clause's number.
+  pub index-length : length (indexBelow 4096 cs) ≡ bodyPlaces cs
+  index-length = index-is 4096 cs (known .once) (known .bodies)
+
+-- "The count of crossings equals the steps of the worklist as defined".
+pub steps-are-crossings : (cs : List Clause) (S : Facts) → worked cs S .crossings ≡ length (steps cs S)
+steps-are-crossings = steps-counted

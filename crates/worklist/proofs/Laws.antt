@@ -1,0 +1,63 @@
+-- What closing by the index gives, for the crates above.
+use Prim.Native.Nat.{ℕ, _≤_, _<_}
+use mathlib.Core.Path.{_≡_, refl, sym, _∙_, fun-ext}
+use mathlib.Core.Logic.{⊎-elim}
+use mathlib.Core.Bool.{Bool, true, false, cond}
+use mathlib.Core.List.{List}
+use lib.Dec.{eqb}
+use lib.ListN.{length, getD, drop, replicate, length-replicate, getD-replicate, List·getD-eq-default}
+use borrow.Author.Tests.{lt-ltb, le-ltb}
+use Rattle.sets.specs.Sets.{Facts}
+use Rattle.sets.proofs.Laws.{below-or-from}
+use Rattle.meaning.specs.Model.{Clause}
+use Rattle.meaning.specs.Worklist.{steps}
+use Rattle.meaning.specs.Working.{Known}
+use Rattle.meaning.proofs.Theorems.{worked-crossings, steps-are-crossings}
+use Rattle.worklist.specs.Working.{stateIn, Begun, Closes}
+use Rattle.worklist.specs.declared.Worked.{Worked}
+
+-- An array of zeros has 0 everywhere.
+pub zeros-at : (n k : ℕ) → _≡_ {A = ℕ} (getD (replicate n 0) k 0) 0
+zeros-at n k =
+    ⊎-elim (λ h. getD-replicate n k 0 0 h)
+    (λ h. List·getD-eq-default (replicate n 0) 0 (rw length-replicate h)) (below-or-from k n)
+
+-- Closing from a table that tells the same state, and is the same beyond its numbers.
+pub closes-from : {cs : List Clause} {S R : Facts} {before begun after : List ℕ} {r : Worked} → R ≡ S
+    → length begun ≡ length before → drop 4096 begun ≡ drop 4096 before → Closes cs R begun after r
+    → Closes cs S before after r
+closes-from {cs} {S} {R} {before} {begun} {after} {r} same long beyond c =
+    let done : Closes cs S begun after r = rw same at c in
+    record {
+      rounds = done .rounds;
+      crossings = done .crossings;
+      as-long = done .as-long ∙ long;
+      entries = done .entries;
+      beyond = done .beyond ∙ beyond;
+    }
+
+-- ---- a table that holds round 0 of a state
+
+module _ (table : List ℕ) {S : Facts} (entries : (f : ℕ) → f < 4096 → getD table f 0 ≡ cond (S f) 0 65535)
+    (low : (f : ℕ) → 4096 ≤ f → S f ≡ false) where
+  -- It tells the state, ..
+  pub state-is : stateIn table ≡ S
+  unfolding stateIn
+  state-is =
+      fun-ext (λ f. ⊎-elim (λ h. rw (lt-ltb f 4096 h, entries f h) (zero-is (S f))) (λ h. rw (le-ltb f 4096 h, low f h))
+      (below-or-from f 4096))
+    where
+      zero-is : (b : Bool) → eqb (cond b 0 65535) 0 ≡ b
+      zero-is true = refl
+      zero-is false = refl
+
+  -- .. and closing may begin.
+  pub begun-from : 4096 ≤ length table → Begun table
+  begun-from room = record { room = room; entries = λ f h. rw state-is (entries f h) }
+
+-- ---- the crossings
+
+-- The crossings are the steps of the worklist as defined.
+pub crossings-steps : {cs : List Clause} {S : Facts} → Known cs S → {before after : List ℕ} {r : Worked}
+    → Closes cs S before after r → r .crossings ≡ length (steps cs S)
+crossings-steps {cs} {S} known c = c .crossings ∙ sym (worked-crossings known) ∙ steps-are-crossings cs S

@@ -1,0 +1,60 @@
+-- Closing by a worklist: what is lent, and what is promised (document 02, wish 5). The promise is that of the rounds;
+-- the worklist itself (Rattle.meaning.specs.Worklist) is not named in it.
+use Prim.Native.Nat.{ℕ, _≤_, _<_}
+use mathlib.Core.Path.{_≡_}
+use mathlib.Core.Bool.{_&&_, cond}
+use mathlib.Core.List.{List}
+use lib.Dec.{eqb, ltb}
+use lib.ListN.{length, getD, take, drop}
+use Rattle.sets.specs.Sets.{Facts, _∈_}
+use Rattle.meaning.specs.Model.{Clause}
+use Rattle.meaning.specs.Rounds.{rounds, closure, roundNumber}
+use Rattle.meaning.specs.Worklist.{indexBelow, bodyPlaces, placesIn}
+use Rattle.meaning.specs.Working.{Known}
+use Rattle.records.specs.Records.{records, placeOf}
+use Rattle.records.specs.declared.Kind.{Kind}
+use Rattle.lists.specs.Lists.{AllCut}
+use Rattle.files.specs.Files.{clausesIn}
+use Rattle.worklist.specs.declared.Worked.{Worked}
+
+-- "Round 0 is the state.": the facts that have the number 0 in the table
+unfoldable pub stateIn : List ℕ → Facts
+stateIn table f = ltb f 4096 && eqb (getD table f 0) 0
+
+-- the table holds round 0: 0 for a fact of the state, 65,535 for every other
+pub record Begun (table : List ℕ) : Type 0 where
+  pub room : 4096 ≤ length table
+  pub entries : (f : ℕ) → f < 4096 → getD table f 0 ≡ cond (stateIn table f) 0 65535
+
+-- what judging has shown of the clauses' section, for a state: "body facts 16"
+pub record Judged (section : List ℕ) (S : Facts) : Type 0 where
+  pub cut : AllCut Kind.Clause section
+  pub known : Known (clausesIn section) S
+  pub short : (c : Clause) → c ∈ clausesIn section → length (c .body) ≤ 16
+
+-- where the record of each clause starts
+abbrev pub Placed : List ℕ → List ℕ → Type 0
+Placed section starts = (k : ℕ) → k < length (clausesIn section) → getD starts k 0 ≡ placeOf k (records section)
+
+-- "The lent index then holds each body place's clause number, by fact and then clause": those of fact f stand from
+-- entry `ends f` on and before entry `ends (f + 1)`
+pub record Listed (cs : List Clause) (index ends : List ℕ) : Type 0 where
+  pub entries : take (bodyPlaces cs) index ≡ indexBelow 4096 cs
+  pub bounds : (f : ℕ) → f ≤ 4096 → getD ends f 0 ≡ length (indexBelow f cs)
+
+-- what closing by the index asks for
+pub record Workable (section table index ends starts : List ℕ) (count : ℕ) : Type 0 where
+  pub judged : Judged section (stateIn table)
+  pub counted : count ≡ length (clausesIn section)
+  pub begun : Begun table
+  pub listed : Listed (clausesIn section) index ends
+  pub places : Placed section starts
+
+-- "answers the number of rounds", each fact's round number, "Anything beyond is unchanged."; "The count of crossings
+-- equals .. the number of body places whose fact is in the closure"
+pub record Closes (cs : List Clause) (S : Facts) (before after : List ℕ) (r : Worked) : Type 0 where
+  pub rounds : r .rounds ≡ rounds cs S
+  pub crossings : r .crossings ≡ placesIn (closure cs S) cs
+  pub as-long : length after ≡ length before
+  pub entries : (f : ℕ) → f < 4096 → getD after f 0 ≡ roundNumber cs S f
+  pub beyond : drop 4096 after ≡ drop 4096 before

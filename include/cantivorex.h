@@ -79,13 +79,13 @@ enum {
 #define CANTIVOREX_NONE 65535
 
 /* The verdict on a model and a trace: answers its number and writes its ten values to the front of `out`. The goals are
- * the attack states and, from version 4 on, then the formulas: one is met where it is false in the last state, and 11 for
- * one that is true has no fact, no kind and no round, the bytes being its record's with the length.
- * For 1 to 9, 12 and 17 state, table and names stay as they were. For 0, 10, 11 and 13 the first 512 bytes of `state` hold
- * the facts of the last state reached (fact f is the bit of value 2^(f mod 8) in byte f/8), the first 4,096 entries of
- * `table` its round numbers, and the first 128 bytes of `names` the names used by then, laid out like the facts.
- * Versions 1 and 2 of a model have no names: all three buffers are needed all the same, and no name is used at the end.
- * What lies beyond stays. With an `out` of fewer than 10 entries the answer is 1 and nothing at all is changed. */
+ * the attack states and, from version 4 on, then the formulas: one is met where it is false in the last state, and 11
+ * for one that is true has no fact, no kind and no round, the bytes being its record's with the length. For 1 to 9, 12
+ * and 17 state, table and names stay as they were. For 0, 10, 11 and 13 the first 512 bytes of `state` hold the facts
+ * of the last state reached (fact f is the bit of value 2^(f mod 8) in byte f/8), the first 4,096 entries of `table`
+ * its round numbers, and the first 128 bytes of `names` the names used by then, laid out like the facts. Versions 1 and
+ * 2 of a model have no names: all three buffers are needed all the same, and no name is used at the end. What lies
+ * beyond stays. With an `out` of fewer than 10 entries the answer is 1 and nothing at all is changed. */
 uint8_t cantivorex_check(const uint8_t *model, size_t model_len, const uint8_t *trace, size_t trace_len,
     uint8_t *state, size_t state_len, uint16_t *table, size_t table_len, uint8_t *names, size_t names_len,
     uint64_t *out, size_t out_len);

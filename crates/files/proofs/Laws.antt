@@ -1,25 +1,26 @@
 -- What a judged model tells the crates above: its bounds, that its facts are below F, and that there is one answer.
 use Prim.Native.Nat.{ℕ, _≤_, _<_}
 use mathlib.Core.Path.{_≡_, refl, _∙_, sym, ap}
-use mathlib.Core.Bool.{Bool, true, false, cond}
+use mathlib.Core.Bool.{Bool, true, false, not, cond}
 use mathlib.Core.Logic.{⊎-elim}
-use mathlib.Core.List.{List, [], map, List·Memᴰ·head, Memᴰ·of-map}
+use mathlib.Core.List.{List, [], _∷_, map, List·Memᴰ·head, Memᴰ·of-map}
 use mathlib.Core.Option.{none}
 use native.Mathlib.Omega.{arith}
-use lib.Dec.{lit<}
-use lib.ListN.{length, getD, length-map}
-use borrow.Author.Tests.{lt-leb, le-leb}
-use Rattle.sets.specs.Sets.{_∈_}
+use lib.Dec.{lit<, ltb}
+use lib.ListN.{length, getD, drop, length-map}
+use borrow.Author.Tests.{lt-leb, le-leb, ltb-false, not-false}
+use Rattle.sets.specs.Sets.{any, _∈_}
 use Rattle.sets.proofs.Laws.{below-or-from}
 use Rattle.meaning.specs.Model.{Clause, Rule, Goal}
-use Rattle.records.specs.Words.{words, ascending}
-use Rattle.records.specs.Records.{records, rows, listCount, listOf, most, judge, firstFault}
+use Rattle.records.specs.Words.{word, words, ascending}
+use Rattle.records.specs.Records.{records, rows, listCount, listOf, most, overLong, anyList, judge, firstFault}
 use Rattle.records.proofs.Words.{even-length}
 use Rattle.records.proofs.Sections.{records-none}
+use Rattle.records.proofs.Judging.{or-clear}
 use Rattle.lists.specs.Lists.{AllCut}
 use Rattle.records.specs.declared.Kind.{Kind}
 use Rattle.records.specs.declared.Kind.the-variants as kind
-use Rattle.lists.proofs.Laws.{clause-lists, judged-count, judged-cut}
+use Rattle.lists.proofs.Laws.{clause-lists, judged-count, judged-as, judged-cut}
 use Rattle.lists.proofs.Rows.{no-fourth, judged-facts}
 use Rattle.sections.specs.Sections.{ruleKind, reader}
 use Rattle.sections.specs.declared.Role.the-variants.{Sizes, Initial, Persistent, Names, Clauses, Rules, Goals}
@@ -89,6 +90,15 @@ three-lists version j is h =
 -- every fact of the list is below F
 abbrev pub Below : ℕ → List ℕ → Type 0
 Below F facts = (f : ℕ) → f ∈ facts → f < F
+
+-- The lists of a clause that pass: its body has at most 16 facts, which ascend.
+body-fine : (F head : ℕ) (body : List ℕ) → anyList overLong (rows kind.Clause F) ((head ∷ []) ∷ body ∷ []) ≡ false
+    → any (λ l. not (ascending l)) ((head ∷ []) ∷ body ∷ []) ≡ false → (length body ≤ 16) × (ascending body ≡ true)
+unfolding anyList rows any
+body-fine F head body short ordered = (
+  ltb-false 16 (length body) (or-clear _ false (or-clear (ltb 1 1) _ short .1) .0),
+  not-false (ascending body) (or-clear _ false (or-clear (not (ascending (head ∷ []))) _ ordered .1) .0),
+)
 
 module _ (file : List ℕ) (fine : shapeFault file ≡ none) where
   -- F is at most 4,096.
@@ -167,6 +177,16 @@ module _ (file : List ℕ) (fine : shapeFault file ≡ none) where
       let lists = clause-lists r (clauses-cut r there) in
       let facts = judged-facts kind.Clause _ _ clauses-judged r there in
       rw (← is) (facts 0 _ (lit< tt) (rw lists (List·Memᴰ·head refl)), λ f m. facts 1 f (lit< tt) (rw lists m))
+
+  -- Its body has at most 16 facts, which ascend.
+  pub clause-body : (c : Clause) → c ∈ modelOf file .clauses → (length (c .body) ≤ 16) × (ascending (c .body) ≡ true)
+  unfolding modelOf AllCut
+  clause-body c member =
+      let (r, there, is) = Memᴰ·of-map clauseOf (records (sectionOf file Clauses)) member in
+      let judged = judged-as kind.Clause _ _ clauses-judged r there .1 in
+      let same = sym (judged .fill) ∙ clause-lists r (clauses-cut r there) in
+      let lists : judged .lists ≡ (word (drop 2 r) ∷ []) ∷ words (drop 4 r) ∷ [] = cc in
+      rw (← is) (body-fine _ _ _ (rw lists at (judged .short)) (rw lists at (judged .ordered)))
 
   -- The facts of every rule's P, N and A are below F.
   pub rule-below : (r : Rule) → r ∈ modelOf file .rules

@@ -2,8 +2,9 @@
 use Prim.Native.Nat.{ℕ, zero, suc, _+_, _≤_, _<_}
 use mathlib.Core.Path.{_≡_, refl, sym, subst}
 use mathlib.Core.Bool.{true, false, _&&_}
-use mathlib.Core.Logic.{⊎-elim}
-use mathlib.Core.List.{List, [], _∷_, List·Memᴰ·head, List·Memᴰ·tail}
+use mathlib.Core.Logic.{⊎-elim, ∥∥₁-elim}
+use mathlib.Core.HLevel.{⊥-prop}
+use mathlib.Core.List.{List, [], _∷_, List·Memᴰ·head, List·Memᴰ·tail, List·Nodup, nodup-nil, nodup-cons}
 use native.Mathlib.Nat.{not-suc-le-zero, le-of-suc-le-suc}
 use native.Mathlib.Omega.{arith}
 use borrow.Author.Tests.{ltb-true}
@@ -42,6 +43,13 @@ ascending-at (x ∷ xs) e (suc i) (suc j) l h =
 index-in : (xs : List ℕ) (x : ℕ) → x ∈ xs → (i : ℕ) × (i < length xs) × (getD xs i 0 ≡ x)
 index-in (y ∷ ys) x (List·Memᴰ·head e) = (0, omega arith, sym e)
 index-in (y ∷ ys) x (List·Memᴰ·tail m) = let (i, h, e) = index-in ys x m in (suc i, omega arith, e)
+
+-- Ascending numbers repeat nothing.
+pub ascending-once : (xs : List ℕ) → ascending xs ≡ true → List·Nodup xs
+ascending-once [] e = nodup-nil
+ascending-once (x ∷ xs) e =
+    let new : x ∈ xs → ⊥ = λ m. let (i, h, is) = index-in xs x m in omega (arith, first-below x xs e i h) in
+    nodup-cons .1 (λ m. ∥∥₁-elim m ⊥-prop new, ascending-once xs (rest-ascending x xs e))
 
 -- n can stand only from low on and before high
 pub record Between (xs : List ℕ) (n low high : ℕ) : Type 0 where

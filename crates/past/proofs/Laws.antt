@@ -12,13 +12,13 @@ use Rattle.sets.specs.Sets.{Facts}
 use Rattle.sets.proofs.Laws.{below-or-from}
 use Rattle.meaning.specs.Past.{Formula, History, truth}
 use Rattle.facts.specs.Facts.{within, room}
-use Rattle.facts.proofs.Laws.{room-in, kept-same, cleared-zero}
+use Rattle.facts.proofs.Laws.{Bytes, room-in, kept-same, cleared-zero, determined}
 use Rattle.records.specs.Words.{words}
 use Rattle.records.specs.Codes.{isFormula}
 use Rattle.formulas.specs.Codes.{codesOf, formulaOf, Writes}
 use Rattle.formulas.proofs.Laws.{formula-is}
 use Rattle.closing.specs.Closing.{numbered}
-use Rattle.past.specs.Keeping.{Values, top, valuesIn, passed, Advanced}
+use Rattle.past.specs.Keeping.{Values, values, top, valuesIn, passed, Advanced}
 use Rattle.past.specs.Remembering.{memory, Remembers}
 use Rattle.past.proofs.Trees.{Stands, stands-at, stands-all, length-memory, none-kept, top-is, Ran, runs}
 
@@ -103,3 +103,19 @@ pub advance-agrees : {codes table bytes after : List ℕ} {answer : Bool} (h : H
     × Remembers (formulaOf (words codes)) (numbered table ∷ h) after
 advance-agrees {codes} {table} {bytes} h is few remembers =
     advance-tree codes table bytes (formulaOf (words codes)) h (formula-is (words codes) is) few remembers
+
+-- ---- what the contract leaves open: nothing
+
+-- Two outcomes that it allows are the same.
+pub advanced-unique : {codes table bytes a b : List ℕ} {x y : Bool} → Bytes a → Bytes b
+    → Advanced codes table bytes a x → Advanced codes table bytes b y → (x ≡ y) × (a ≡ b)
+advanced-unique ha hb p q = (
+  p .value ∙ sym (q .value),
+  determined ha hb (p .kept) (q .kept) (λ j. p .bits j ∙ sym (q .bits j)),
+)
+
+-- With no codes, as where the goal is an attack state, no byte is changed.
+pub none-advanced : {table bytes after : List ℕ} {answer : Bool} → Bytes bytes → Bytes after
+    → Advanced [] table bytes after answer → after ≡ bytes
+unfolding words values
+none-advanced {bytes = bytes} hb ha p = determined ha hb (p .kept) (kept-same bytes) (p .bits)

@@ -127,6 +127,7 @@ none-kept =
 
 -- ---- an operator's value and its bit, from one state to the next
 
+-- What is not false is true.
 not-twice : (b : Bool) → not (not b) ≡ b
 not-twice true = refl
 not-twice false = refl
@@ -153,6 +154,7 @@ module _ (X : Facts) (h : History) where
       ≡ own (withOne c p) (X ∷ h)) refl
       (rw (leb·suc-suc 0 (length h), leb·zero (length h))) refl refl
 
+  -- The same of an operator over two.
   two-value : (p q : Formula) (c : ℕ) → overTwo c ≡ true
       → valueOf c (truth p (X ∷ h)) (truth q (X ∷ h)) (own (withTwo c p q) h) ≡ truth (withTwo c p q) (X ∷ h)
   unfolding valueOf withTwo memory truth

@@ -4,6 +4,8 @@ use mathlib.Core.Path.{_≡_, refl, sym, _∙_, fun-ext}
 use mathlib.Core.Logic.{⊎-elim}
 use mathlib.Core.Bool.{Bool, true, false, cond}
 use mathlib.Core.List.{List}
+use mathlib.Core.Option.{none}
+use native.Mathlib.Omega.{arith}
 use lib.Dec.{eqb}
 use lib.ListN.{length, getD, drop, replicate, length-replicate, getD-replicate, List·getD-eq-default}
 use borrow.Author.Tests.{lt-ltb, le-ltb}
@@ -13,7 +15,11 @@ use Rattle.meaning.specs.Model.{Clause}
 use Rattle.meaning.specs.Worklist.{steps}
 use Rattle.meaning.specs.Working.{Known}
 use Rattle.meaning.proofs.Theorems.{worked-crossings, steps-are-crossings}
-use Rattle.worklist.specs.Working.{stateIn, Begun, Closes}
+use Rattle.lists.proofs.Sorted.{ascending-once}
+use Rattle.sections.specs.declared.Role.{Role}
+use Rattle.files.specs.Files.{sectionOf, modelOf, shapeFault}
+use Rattle.files.proofs.Laws.{facts-bound, clauses-cut, clauses-bound, clause-below, clause-body}
+use Rattle.worklist.specs.Working.{stateIn, Begun, Judged, Closes}
 use Rattle.worklist.specs.declared.Worked.{Worked}
 
 -- An array of zeros has 0 everywhere.
@@ -54,6 +60,24 @@ module _ (table : List ℕ) {S : Facts} (entries : (f : ℕ) → f < 4096 → ge
   -- .. and closing may begin.
   pub begun-from : 4096 ≤ length table → Begun table
   begun-from room = record { room = room; entries = λ f h. rw state-is (entries f h) }
+
+-- ---- a judged model
+
+-- What judging has shown of a model's clauses, for a state without facts from 4,096 on.
+pub judged-model : (m : List ℕ) → shapeFault m ≡ none → {S : Facts} → ((f : ℕ) → 4096 ≤ f → S f ≡ false)
+    → Judged (sectionOf m Role.Clauses) S
+unfolding modelOf
+judged-model m fine low = record {
+  cut = clauses-cut m fine;
+  known = record {
+    count = clauses-bound m fine;
+    heads = λ c i. omega (arith, facts-bound m fine, clause-below m fine c i .0);
+    bodies = λ c i b j. omega (arith, facts-bound m fine, clause-below m fine c i .1 b j);
+    once = λ c i. ascending-once (c .body) (clause-body m fine c i .1);
+    state = low;
+  };
+  short = λ c i. clause-body m fine c i .0;
+}
 
 -- ---- the crossings
 

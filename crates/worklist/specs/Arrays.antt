@@ -41,7 +41,7 @@ seen lacking table queue n at crossings = record {
   crossings = crossings;
 }
 
--- the same, as the array says what clauses lack
+-- the same, with what the array says that clauses lack
 abbrev pub said : Arrays → ℕ → ℕ → Work
 said a at crossings = seen (λ k. getD (a .lacks) k 0) (a .table) (a .queue) (a .n) at crossings
 
@@ -81,7 +81,7 @@ pub record Starts (cs : List Clause) (S : Facts) (before : List ℕ) (a : Arrays
 
 -- ---- a crossing
 
--- where a fact arrives in round r, unless it has arrived before
+-- a fact arrives in round r, unless it has arrived before: table, queue and how many have arrived, before and after
 pub record Arrives (f r : ℕ) (table queue : List ℕ) (n : ℕ) (table′ queue′ : List ℕ) (n′ : ℕ) : Type 0 where
   pub new : getD table f 0 ≡ 65535 → (table′ ≡ set table f r) × (queue′ ≡ set queue n f) × (n′ ≡ n + 1)
   pub old : (getD table f 0 ≡ 65535 → ⊥) → (table′ ≡ table) × (queue′ ≡ queue) × (n′ ≡ n)
@@ -95,7 +95,7 @@ pub record Crossable (cs : List Clause) (k : ℕ) (a : Arrays) : Type 0 where
   pub room : getD (a .table) (clauseAt cs k .head) 0 ≡ 65535 → a .n < 4096
   pub fits : Fits a
 
--- in the midst of a turn, of some fact in some state: these entries are still to be crossed, in round r
+-- in the midst of a turn, of some fact in some state: these entries are still to be crossed, in the round before r
 pub record Amid (cs : List Clause) (r : ℕ) (ks : List ℕ) (a : Arrays) : Type 0 where
   pub S : Facts
   pub known : Known cs S

@@ -199,7 +199,8 @@ fn print_line(v: Verdict) {
     }
 }
 
-// Each buffer has one byte more than its file's bound, so that a file over the bound is seen to be over it.
+// A file's buffer has one byte more than its bound, so that a file over the bound is seen to be over it. The index has
+// room for every model: a body place takes 2 of its bytes.
 fn main() {
     let mut model = [0u8; 65537];
     let mut trace = [0u8; 4097];
@@ -213,11 +214,13 @@ fn main() {
     let mut state = [0u8; 512];
     let mut table = [0u16; 4096];
     let mut names = [0u8; 128];
-    print_line(checking::check(
+    let mut index = [0u16; 32768];
+    print_line(checking::check_indexed(
         &model[..model_size],
         &trace[..trace_size],
         &mut state,
         &mut table,
         &mut names,
+        &mut index,
     ));
 }

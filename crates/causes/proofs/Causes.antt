@@ -19,8 +19,8 @@ use Rattle.sections.proofs.Fits.{neither, not-given}
 use Rattle.files.specs.Files.{Blamed, modelBytes, traceBytes, modelVersion, traceVersion}
 use Rattle.files.specs.Files.{modelFault, headsFault, filesFault, pairFault}
 use Rattle.files.specs.Files.Blamed.{model, trace}
-use Rattle.causes.specs.Causes.{ModelCause, TraceCause, Starts, ModelStarts, RightSizes, RightHeads, Cause}
-use Rattle.causes.specs.Causes.{RightPair, Refusing}
+use Rattle.causes.specs.Causes.{ModelCause, RightModel, TraceCause, Starts, ModelStarts, RightSizes, RightHeads}
+use Rattle.causes.specs.Causes.{Cause, RightPair, Refusing}
 use Rattle.causes.proofs.Found.{either-found, given-found, Found}
 use Rattle.causes.proofs.ModelCauses.{right-model, model-cause}
 use Rattle.causes.proofs.TraceCauses.{trace-cause, trace-right}
@@ -152,6 +152,13 @@ module _ (m t : List ℕ) where
         trace = starts trace-versions t (map-eq-none-iff trace _ .0 r₃);
       }
 
+  -- Where nothing is found in the model either, that is right too.
+  pub right-files : filesFault m t ≡ none → RightHeads m t × RightModel m
+  unfolding filesFault
+  right-files e =
+      let (heads, shape) = neither (headsFault m t) _ e in
+      (right-heads heads, right-model m (map-eq-none-iff model _ .0 shape))
+
   -- The fault of a pair has its cause, and its bytes are a part of the file at fault.
   pub pair-cause : (b : Blamed) → pairFault m t ≡ some b → FoundIn m t b
   unfolding pairFault filesFault
@@ -164,9 +171,7 @@ module _ (m t : List ℕ) where
       (λ f e. found-in (model-cause m (starts-byte _ m (heads .model)) f e) (λ k bytes c. Cause.in-model heads c)))
       (either-found _ _ b e))
       (λ (fine, e).
-      let (heads-fine, shape) = neither (headsFault m t) _ fine in
-      let heads = right-heads heads-fine in
-      let right = right-model m (map-eq-none-iff model _ .0 shape) in
+      let (heads, right) = right-files fine in
       blame-found trace _ b e
       (λ f e.
       found-in (trace-cause m t (starts-byte _ t (heads .trace)) f e) (λ k bytes c. Cause.in-trace heads right c)))
@@ -233,15 +238,14 @@ model-fault-range m =
 
 -- A pair without a fault is right.
 pub right-pair : (m t : List ℕ) → pairFault m t ≡ none → RightPair m t
-unfolding pairFault filesFault
+unfolding pairFault
 right-pair m t e =
-    let (files, _) = neither (filesFault m t) _ e in
-    let (heads, shape) = neither (headsFault m t) _ files in
+    let (heads, shape) = right-files m t (neither (filesFault m t) _ e .0) in
     let fine = fine-pair m t e .trace in
     let (right, few) = trace-right _ _ m t fine in
     record {
-      heads = right-heads m t heads;
-      model = right-model m (map-eq-none-iff model _ .0 shape);
+      heads = heads;
+      model = shape;
       trace = right;
       count = few;
       goal = trace-goal-known _ _ t fine;

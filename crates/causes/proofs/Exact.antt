@@ -7,12 +7,11 @@ use mathlib.Core.Option.{Option, none, some}
 use native.Mathlib.Omega.{arith}
 use lib.ListN.{length}
 use Rattle.sets.proofs.Laws.{below-or-from}
-use Rattle.records.specs.declared.Fault.{Fault}
 use Rattle.sections.specs.Sections.{tooLong, wrongVersion}
 use Rattle.sections.specs.declared.Role.{Role}
 use Rattle.sections.proofs.Fits.{neither}
-use Rattle.files.specs.Files.{Blamed, tag, placeOfRole, traceOf, modelBytes, modelVersion}
-use Rattle.files.specs.Files.{modelFault, pairFault}
+use Rattle.files.specs.Files.{Blamed, tag, placeOfRole, traceOf, modelBytes, traceBytes, modelVersion, traceVersion}
+use Rattle.files.specs.Files.{modelFault, headsFault, filesFault, pairFault}
 use Rattle.files.specs.Files.Blamed.{model, trace}
 use Rattle.files.specs.Answers.{blamedNumber}
 use Rattle.causes.specs.Causes.{Fits, WrongIn, RightSection, ModelCause, RightModel, RightTrace, TraceCause}
@@ -22,7 +21,13 @@ use Rattle.files.proofs.Roles.{same-role}
 use Rattle.files.proofs.Traces.{not-long}
 use Rattle.causes.proofs.Wrong.{wrong-within, one-turn}
 use Rattle.causes.proofs.ModelCauses.{right-model}
-use Rattle.causes.proofs.Causes.{model-versions, starts, pair-cause, alone-cause, right-pair}
+use Rattle.causes.proofs.Causes.{model-versions, trace-versions, starts, version-cause, long-cause, right-files}
+use Rattle.causes.proofs.Causes.{pair-cause, alone-cause, right-pair}
+
+-- Where a fault can't be, there is none.
+unfound : {A : Type 0} (found : Option A) → ((f : A) → found ≡ some f → ⊥) → found ≡ none
+unfound none h = refl
+unfound (some f) h = absurd (h f refl)
 
 -- ---- right or not
 
@@ -178,11 +183,8 @@ module _ (m t : List ℕ) where
 
   -- A pair has no fault exactly if it is right.
   pub right-exactly : (pairFault m t ≡ none) ↔ RightPair m t
-  right-exactly = (right-pair m t, λ right. go right (pairFault m t) refl)
-    where
-      go : RightPair m t → (found : Option Blamed) → pairFault m t ≡ found → pairFault m t ≡ none
-      go right none e = e
-      go right (some b) e = let (_, _, c) = some-cause b e in absurd (cause-right right c)
+  right-exactly =
+      (right-pair m t, λ right. unfound _ (λ b e. let (_, _, c) = some-cause b e in cause-right right c))
 
   -- Its fault has a number exactly if that number's cause is there.
   pub number-exactly : (k : ℕ) → ((b : Blamed) × (pairFault m t ≡ some b) × (blamedNumber b ≡ k))
@@ -207,12 +209,25 @@ model-exactly m = (
       let (short, rest) = neither (tooLong modelBytes m) _ e in
       let (version, shape) = neither (wrongVersion modelVersion m) _ rest in
       (not-long modelBytes m short, starts model-versions m version, right-model m shape),
-  λ (short, first, right). go short first right (modelFault m) refl,
+  λ (short, first, right).
+      unfound _
+      (alone-cause m (λ _. ⊥) (λ h. omega arith) (λ _ other. other first) (λ _ _ _ _ c. model-right right c)),
 )
-  where
-    go : length m ≤ 65536 → ModelStarts m → RightModel m → (found : Option Fault) → modelFault m ≡ found
-        → modelFault m ≡ none
-    go short first right none e = e
-    go short first right (some f) e =
-        absurd
-        (alone-cause m (λ _. ⊥) (λ h. omega arith) (λ _ other. other first) (λ _ _ _ _ c. model-right right c) f e)
+
+-- ---- both files, before the trace's own numbers
+
+-- Sizes, versions and the model have no fault exactly if they are right.
+pub files-exactly : (m t : List ℕ) → (filesFault m t ≡ none) ↔ (RightHeads m t × RightModel m)
+unfolding filesFault headsFault modelFault
+files-exactly m t = (
+  right-files m t,
+  λ (heads, right).
+      let alone = model-exactly m .1 (heads .sizes .model, heads .model, right) in
+      let (short, rest) = neither (tooLong modelBytes m) _ alone in
+      let (version, shape) = neither (wrongVersion modelVersion m) _ rest in
+      let trace-short : tooLong traceBytes t ≡ none =
+      unfound _ (λ f e. long-cause traceBytes t (λ _ _. ⊥) f e (λ h. omega (arith, heads .sizes .trace)) .cause) in
+      let trace-version : wrongVersion traceVersion t ≡ none =
+      unfound _ (λ f e. version-cause trace-versions t (λ _ _. ⊥) f e (λ other. other (heads .trace)) .cause) in
+      rw (short, trace-short, version, trace-version, shape),
+)

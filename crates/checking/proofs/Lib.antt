@@ -6,6 +6,7 @@ pub mod Ends
 pub mod Verdicts
 pub mod Checks
 pub mod Refusals
+pub mod Indexed
 pub mod Causes
 pub mod Parts
 pub mod Naming
@@ -15,3 +16,4 @@ pub mod Names
 pub mod Past
 pub mod Cases
 pub mod Versions
+pub mod WithIndex

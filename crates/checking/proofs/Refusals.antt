@@ -1,31 +1,34 @@
 -- Laws on what decides a verdict: no room, a fault of the pair, or the run.
 use Prim.Native.Nat.{ℕ}
 use mathlib.Core.Path.{_≡_, refl}
-use mathlib.Core.Logic.{_⊎_, inl, inr}
-use mathlib.Core.Bool.{true, false, or-true}
+use mathlib.Core.Bool.{true, false}
 use mathlib.Core.List.{List}
 use mathlib.Core.Option.{Option, none, some}
 use lib.Dec.{ltb}
+use borrow.Author.Tests.{ltb-false}
 use lib.ListN.{length}
 use Rattle.sets.proofs.Laws.{by-test}
 use Rattle.records.specs.Records.{given, _orElse_}
+use Rattle.records.proofs.Judging.{or-clear}
 use Rattle.files.specs.Files.{Blamed, pairFault}
 use Rattle.closing.specs.Closing.{noRoom}
 use Rattle.checking.specs.Verdict.{Lent, noSpace, nothing, refused, blamed, refusal, outcome, ran, verdictOf}
+use Rattle.checking.specs.Running.{Ready}
 use Rattle.checking.specs.Promises.{verdict, WellFormed}
 use Rattle.checking.specs.declared.Verdict.{Verdict}
 
-module _ (l : Lent) where
-  -- A buffer is too short,
-  pub short : (noRoom (l .state) (l .table) ≡ true) ⊎ (ltb (length (l .names)) 128 ≡ true) → noSpace l ≡ true
-  unfolding noSpace
-  short (inl e) = rw e
-  short (inr e) = rw e (or-true (noRoom (l .state) (l .table)))
-
-  -- or none is.
-  pub enough : noRoom (l .state) (l .table) ≡ false → ltb (length (l .names)) 128 ≡ false → noSpace l ≡ false
-  unfolding noSpace
-  enough e f = rw (e, f)
+-- With room for all, a pair without fault can be run.
+pub spacious : (l : Lent) {m t : List ℕ} → noSpace l ≡ false → pairFault m t ≡ none → Ready m t l
+unfolding noSpace noRoom
+spacious l room fine =
+    let (buffers, names) = or-clear (noRoom (l .state) (l .table)) _ room in
+    let (state, table) = or-clear (ltb (length (l .state)) 512) _ buffers in
+    record {
+      fine = fine;
+      room = ltb-false _ _ state;
+      entries = ltb-false _ _ table;
+      names = ltb-false _ _ names;
+    }
 
 module _ (m t : List ℕ) (l : Lent) where
   -- Without room 1 is given.

@@ -12,6 +12,7 @@ use Rattle.meaning.specs.Past.{Formula, truth}
 use Rattle.meaning.specs.Model.{Goal, Model, State, ruleOf, aimOf, start}
 use Rattle.meaning.specs.Model.Aim.{state, formula}
 use Rattle.meaning.specs.Rounds.{closure, roundNumber}
+use Rattle.meaning.specs.Worklist.{bodyPlaces}
 use Rattle.meaning.specs.Run.Condition.{positive, negative, unused}
 use Rattle.meaning.specs.Published.{Path, earlier}
 use Rattle.meaning.specs.Promises.{FirstUnmet, FirstUnmetOf, Makes}
@@ -20,7 +21,7 @@ use Rattle.records.specs.Records.{records}
 use Rattle.sections.specs.declared.Role.the-variants.{Goals, Formulas}
 use Rattle.files.specs.Files.{sectionOf, modelOf, traceOf, pairFault}
 use Rattle.files.specs.Answers.{partOf}
-use Rattle.causes.specs.Causes.{Cause, Refusing}
+use Rattle.causes.specs.Causes.{RightModel, RightHeads, Cause, Refusing}
 use Rattle.files.specs.declared.Part.{Part}
 use Rattle.checking.specs.Verdict.{Lent, noSpace, outcome, numberOf, refusal, verdictOf}
 use Rattle.checking.specs.declared.Verdict.{Verdict}
@@ -76,6 +77,21 @@ pub record Given (m t : List ℕ) (l : Lent) (number : ℕ) : Type 0 where
   pub fault : (k : ℕ) → Refusing k → (number ≡ k) ↔ ((noSpace l ≡ false) × CauseOf m t k)
   pub ran : (k : ℕ) → (k ≡ 1 → ⊥) → (Refusing k → ⊥) → (number ≡ k) ↔ (WellFormed m t l × (endNumber m t ≡ k))
 
+-- ---- numbers with an index lent (document 02, wish 5)
+
+-- "ROOM, right after NEGATED, if the lent index has fewer entries than the model has body places": there is room for
+-- all else, and sizes, versions and the model are right, whatever the trace's own numbers would be
+pub record IndexShort (m t : List ℕ) (l : Lent) (index : List ℕ) : Type 0 where
+  pub room : noSpace l ≡ false
+  pub heads : RightHeads m t
+  pub model : RightModel m
+  pub places : length index < bodyPlaces (modelOf m .clauses)
+
+-- 1 for no room or a short index, and otherwise each number exactly as without an index
+pub record GivenIndexed (m t : List ℕ) (l : Lent) (index : List ℕ) (number : ℕ) : Type 0 where
+  pub room : (number ≡ 1) ↔ ((noSpace l ≡ true) ⊎ IndexShort m t l index)
+  pub other : (IndexShort m t l index → ⊥) → Given m t l number
+
 -- ---- the bytes at fault
 
 -- "For 0 and 1: the empty part at the model's start."; for 2 to 9, 12 and 17 the number's cause in the words of 01's
@@ -96,7 +112,8 @@ pub record AtFault (m t : List ℕ) (v : Verdict) : Type 0 where
 -- ---- step, fact, rounds, held
 
 -- "step: for 10 the number of the blocked step from 0; for 0 and 11 the count of steps; otherwise 0", "fact: ..
--- otherwise 65,535", "rounds .. 0 for 1 to 9", "held .. 0 for 1 to 9"; 12 and 17 are as these, 13 "all else as for BLOCKED"
+-- otherwise 65,535", "rounds .. 0 for 1 to 9", "held .. 0 for 1 to 9"; 12 and 17 are as these, 13 "all else as for
+-- BLOCKED"
 pub record Values (t : List ℕ) (v : Verdict) : Type 0 where
   pub refused : (v .number ≡ 1) ⊎ Refusing (v .number) → (v .step ≡ 0) × (v .rounds ≡ 0) × (v .held ≡ 0)
   pub ended : (v .number ≡ 0) ⊎ (v .number ≡ 11) → v .step ≡ length (traceOf t .steps)

@@ -2,6 +2,7 @@
 -- the outside rests on these.
 use Prim.Native.Nat.{ℕ, _+_, _*_, _≤_, _<_}
 use mathlib.Core.Path.{_≡_}
+use mathlib.Core.Bool.{false}
 use mathlib.Core.List.{List, []}
 use mathlib.Core.Option.{Option, none, some}
 use lib.ListN.{length, getD, drop}
@@ -14,10 +15,12 @@ use Rattle.meaning.specs.Run.Condition.{positive, negative, unused}
 use Rattle.meaning.specs.Run.Ending.{attack, blocked, notMet, upheld}
 use Rattle.meaning.specs.Rounds.{rounds, roundNumber}
 use Rattle.facts.specs.Facts.{members, Kept}
-use Rattle.files.specs.Files.{pairFault, modelOf, traceOf}
+use Rattle.files.specs.Files.{filesFault, pairFault, modelOf, traceOf}
+use Rattle.files.specs.Answers.{countsOf}
+use Rattle.files.specs.declared.Counts.{Counts}
 use Rattle.closing.specs.Closing.{Filled}
 use Rattle.past.specs.Remembering.{Remembers}
-use Rattle.checking.specs.Verdict.{Lent, namesIn, outcome, Left}
+use Rattle.checking.specs.Verdict.{Lent, namesIn, noSpace, outcome, Left}
 use Rattle.checking.specs.declared.conditions.Condition.the-variants as condition
 use Rattle.checking.specs.declared.conditions.Unmet.the-variants as found
 use Rattle.checking.specs.declared.running.Ending.the-variants as ending
@@ -57,6 +60,13 @@ pub record Ready (m t : List ℕ) (l : Lent) : Type 0 where
   pub room : 512 ≤ length (l .state)
   pub entries : 4096 ≤ length (l .table)
   pub names : 128 ≤ length (l .names)
+
+-- what is known of a pair before its trace is judged: its files have passed, the model has so many records, and there
+-- is room in the buffers
+pub record Passed (m t : List ℕ) (l : Lent) (n : Counts) : Type 0 where
+  pub room : noSpace l ≡ false
+  pub fine : filesFault m t ≡ none
+  pub counted : countsOf m ≡ n
 
 -- the state that is in the buffers
 abbrev pub stateIn : Lent → State

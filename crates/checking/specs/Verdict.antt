@@ -9,16 +9,17 @@ use lib.Dec.{ltb}
 use lib.ListN.{length}
 use Rattle.sets.specs.Sets.{Facts}
 use Rattle.meaning.specs.Model.{Model}
+use Rattle.meaning.specs.Model.{aims}
 use Rattle.meaning.specs.Rounds.{roundNumber}
 use Rattle.meaning.specs.Run.{Condition, Ending, Outcome, run}
 use Rattle.meaning.specs.Run.Condition.{positive, negative, unused}
 use Rattle.meaning.specs.Run.Ending.{attack, blocked, notMet, upheld}
 use Rattle.facts.specs.Facts.{within, members, Kept}
 use Rattle.records.specs.Records.{given, _orElse_}
-use Rattle.files.specs.Files.{Blamed, modelOf, traceOf, pairFault}
+use Rattle.files.specs.Files.{Blamed, modelOf, traceOf, filesFault, stepsFault, pairFault}
 use Rattle.files.specs.Answers.{blamedNumber, blamedPart, entryPart, goalPart}
 use Rattle.files.specs.declared.Part.{Part}
-use Rattle.closing.specs.Closing.{Filled, noRoom}
+use Rattle.closing.specs.Closing.{Filled, noRoom, Index, noPlaces}
 use Rattle.checking.specs.declared.Verdict.{Verdict}
 
 -- ---- what is lent
@@ -180,3 +181,21 @@ Buffers m t none before after = Left (modelOf m) (outcome m t) before after
 pub record Checked (m t : List ℕ) (before after : Lent) (v : Verdict) : Type 0 where
   pub verdict : v ≡ verdictOf m t (refusal m t before)
   pub buffers : Buffers m t (refusal m t before) before after
+
+-- ---- with an index lent (document 02, wish 5)
+
+-- "Refusals: ROOM, right after NEGATED, if the lent index has fewer entries than the model has body places": after the
+-- model's numbers, before the trace's 4, 5 and 9
+unfoldable pub refusalIndexed : List ℕ → List ℕ → Lent → List ℕ → Option Verdict
+unfolding noSpace refused blamed given _orElse_ filesFault noPlaces modelOf aims
+refusalIndexed m t l index =
+    given (noSpace l) (refused 1 nothing)
+    orElse Option·map blamed (filesFault m t)
+    orElse given (noPlaces m index) (refused 1 nothing)
+    orElse Option·map blamed (stepsFault (length (aims (modelOf m))) (length (modelOf m .rules)) t)
+
+-- what checking with an index promises: as without one, and every entry of the index
+pub record CheckedIndexed (m t : List ℕ) (before after : Lent) (ix ix' : List ℕ) (v : Verdict) : Type 0 where
+  pub verdict : v ≡ verdictOf m t (refusalIndexed m t before ix)
+  pub buffers : Buffers m t (refusalIndexed m t before ix) before after
+  pub index : Index (refusalIndexed m t before ix) (modelOf m .clauses) ix ix'

@@ -7,11 +7,11 @@ ghost use Prim.Native.Nat.{_<_, _≤_};
 ghost use lib.ListN.{length};
 ghost use Rattle.meaning.specs.Model.{start};
 ghost use Rattle.meaning.specs.Run.{askedOf};
-ghost use mathlib.Core.Bool.{true};
+ghost use mathlib.Core.Bool.{true, false};
 ghost use Rattle.sections.specs.Sections.{fits, sectionAt};
 ghost use Rattle.files.specs.Files.{pairFault, modelOf, entriesOf, traceOf};
 ghost use Rattle.files.specs.Known.{GoalCodes};
-ghost use Rattle.closing.specs.Closing.{numbered};
+ghost use Rattle.closing.specs.Closing.{numbered, Way, IndexHolds, noPlaces};
 ghost use Rattle.checking.specs.Verdict.{namesIn, outcome, ran, Left};
 ghost use Rattle.checking.specs.Running.{Ready, stateIn, StepsTo, EndsAs, Shows, Numbers, endingOf};
 ghost use Rattle.checking.specs.Running.{aimed, Keeps, Asked};
@@ -33,8 +33,8 @@ pub struct Steps {
     pub stop: Unmet,
 }
 
-// How a run ends: the goal is met, a step is blocked, the attack state has a condition that isn't met, or the formula is
-// true.
+// How a run ends: the goal is met, a step is blocked, the attack state has a condition that isn't met, or the formula
+// is true.
 pub enum Ending {
     Attack,
     Blocked(Condition),
@@ -68,11 +68,15 @@ fn search(
     table: &mut [u16],
     names: &mut [u8],
     kept: &mut [u8],
+    index: &[u16],
+    ends: &[u16],
+    starts: &[u16],
 ) -> Steps
     requires { ⌜ Ready (now model) (now trace) (record { state = now state; table = now table; names = now names })
         × (stateIn (record { state = now state; table = now table; names = now names }) ≡ start (modelOf (now model)))
         × GoalCodes (now model) (traceOf (now trace) .goal) (now codes)
-        × Keeps (aimed (now model) (now trace)) [] (now kept) ⌝ }
+        × Keeps (aimed (now model) (now trace)) [] (now kept)
+        × Way (now model) (now index) (now ends) (now starts) ⌝ }
     ensures { λ r. ⌜ StepsTo (now (model .entry)) (now (trace .entry))
         (record { state = now (state .entry); table = now (table .entry); names = now (names .entry) })
         (record { state = now (state .exit); table = now (table .exit); names = now (names .exit) })
@@ -87,7 +91,7 @@ fn search(
         if steps <= fired {
             break 'search Unmet::Nowhere;
         }
-        rounds += closing::close_judged(model, state, table);
+        rounds += closing::close_judged(model, state, table, index, ends, starts);
         let rule = held::record(model, Role::Rules, records::word_at(entries, 2 + 2 * fired));
         let p = held::rule_list(model, rule, 0);
         let n = held::rule_list(model, rule, 1);
@@ -164,11 +168,15 @@ fn finish(
     table: &mut [u16],
     names: &[u8],
     kept: &mut [u8],
+    index: &[u16],
+    ends: &[u16],
+    starts: &[u16],
 ) -> Ended
     requires { ⌜ Ready (now model) (now trace) (record { state = now state; table = now table; names = now names })
         × StepsTo (now model) (now trace) (record { state = now state; table = now table; names = now names })
         (record { state = now state; table = now table; names = now names }) (now kept) reached
-        × GoalCodes (now model) (traceOf (now trace) .goal) (now codes) ⌝ }
+        × GoalCodes (now model) (traceOf (now trace) .goal) (now codes)
+        × Way (now model) (now index) (now ends) (now starts) ⌝ }
     ensures { λ r. ⌜ EndsAs (now (model .entry)) (now (trace .entry))
         (record { state = now (state .entry); table = now (table .entry); names = now (names .entry) })
         (record { state = now (state .entry); table = now (table .exit); names = now (names .entry) }) r ⌝ }
@@ -181,7 +189,7 @@ fn finish(
             rounds: reached.rounds,
         },
         Unmet::Nowhere => {
-            let rounds = closing::close_judged(model, state, table);
+            let rounds = closing::close_judged(model, state, table, index, ends, starts);
             Ended {
                 ending: ask(model, trace, codes, table, names, kept),
                 step: reached.fired,
@@ -250,15 +258,19 @@ fn verdict(model: &[u8], trace: &[u8], ended: Ended, held: usize, table: &[u16])
     }
 }
 
-// Runs a judged pair.
-pub fn run(
+// Runs a judged pair: each state is closed by the index where one is lent, else by sweeps.
+fn run(
     model: &[u8],
     trace: &[u8],
     state: &mut [u8],
     table: &mut [u16],
     names: &mut [u8],
+    index: &[u16],
+    ends: &[u16],
+    starts: &[u16],
 ) -> Verdict
-    requires { ⌜ Ready (now model) (now trace) (record { state = now state; table = now table; names = now names }) ⌝ }
+    requires { ⌜ Ready (now model) (now trace) (record { state = now state; table = now table; names = now names })
+        × Way (now model) (now index) (now ends) (now starts) ⌝ }
     ensures { λ r. ⌜
         (r ≡ ran (now (model .entry)) (now (trace .entry)) (outcome (now (model .entry)) (now (trace .entry))))
         × Left (modelOf (now (model .entry))) (outcome (now (model .entry)) (now (trace .entry)))
@@ -273,7 +285,83 @@ pub fn run(
     );
     let codes = held::formula(model, goal_of(trace));
     let mut kept = [0u8; 32];
-    let reached = search(model, trace, codes, state, table, names, &mut kept);
-    let ended = finish(model, trace, codes, reached, state, table, names, &mut kept);
+    let reached = search(
+        model,
+        trace,
+        codes,
+        state,
+        table,
+        names,
+        &mut kept,
+        index,
+        ends,
+        starts,
+    );
+    let ended = finish(
+        model,
+        trace,
+        codes,
+        reached,
+        state,
+        table,
+        names,
+        &mut kept,
+        index,
+        ends,
+        starts,
+    );
     verdict(model, trace, ended, facts::count(state, 512), table)
+}
+
+// Runs a judged pair, with no index.
+pub fn run_swept(
+    model: &[u8],
+    trace: &[u8],
+    state: &mut [u8],
+    table: &mut [u16],
+    names: &mut [u8],
+) -> Verdict
+    requires { ⌜ Ready (now model) (now trace) (record { state = now state; table = now table; names = now names }) ⌝ }
+    ensures { λ r. ⌜
+        (r ≡ ran (now (model .entry)) (now (trace .entry)) (outcome (now (model .entry)) (now (trace .entry))))
+        × Left (modelOf (now (model .entry))) (outcome (now (model .entry)) (now (trace .entry)))
+        (record { state = now (state .entry); table = now (table .entry); names = now (names .entry) })
+        (record { state = now (state .exit); table = now (table .exit); names = now (names .exit) }) ⌝ }
+{
+    let empty = [0u16; 1];
+    let none = &empty[..0];
+    run(model, trace, state, table, names, none, none, none)
+}
+
+// Runs a judged pair, by an index of the model's clauses, which is built once for all states.
+pub fn run_indexed(
+    model: &[u8],
+    trace: &[u8],
+    state: &mut [u8],
+    table: &mut [u16],
+    names: &mut [u8],
+    index: &mut [u16],
+) -> Verdict
+    requires { ⌜ Ready (now model) (now trace) (record { state = now state; table = now table; names = now names })
+        × (noPlaces (now model) (now index) ≡ false) ⌝ }
+    ensures { λ r. ⌜
+        (r ≡ ran (now (model .entry)) (now (trace .entry)) (outcome (now (model .entry)) (now (trace .entry))))
+        × Left (modelOf (now (model .entry))) (outcome (now (model .entry)) (now (trace .entry)))
+        (record { state = now (state .entry); table = now (table .entry); names = now (names .entry) })
+        (record { state = now (state .exit); table = now (table .exit); names = now (names .exit) })
+        × IndexHolds (modelOf (now (model .entry)) .clauses) (now (index .entry)) (now (index .exit)) ⌝ }
+{
+    let mut ends = [0u16; 4097];
+    let mut starts = [0u16; 4096];
+    let n = closing::build_index(model, index, &mut ends, &mut starts);
+    run(
+        model,
+        trace,
+        state,
+        table,
+        names,
+        index,
+        &ends,
+        &starts[..n],
+    )
 }

@@ -1,13 +1,13 @@
 -- Laws on closing called by itself: what each closeRefusal rests on, and what a judged model has.
 use Prim.Native.Nat.{ℕ, _≤_, _<_}
 use mathlib.Core.Path.{_≡_, refl, sym, ap, _∙_, subst}
-use mathlib.Core.Logic.{_⊎_, inl, inr, ⊎-elim}
-use mathlib.Core.Bool.{Bool, true, false, true≢false, _&&_, or-true}
+use mathlib.Core.Logic.{⊎-elim}
+use mathlib.Core.Bool.{Bool, true, false, true≢false, _&&_}
 use mathlib.Core.List.{List}
 use mathlib.Core.Option.{Option, none, some, Option·map, Option·none-ne-some}
 use native.Mathlib.Nat.{lt-of-le-of-lt}
 use native.Mathlib.Omega.{arith}
-use borrow.Author.Tests.{lt-ltb, le-ltb, le-leb, leb-true}
+use borrow.Author.Tests.{lt-ltb, le-ltb, le-leb, leb-true, ltb-false}
 use lib.Dec.{T, leb, ltb}
 use lib.ListN.{length}
 use Rattle.sets.specs.Sets.{Facts, first}
@@ -17,6 +17,7 @@ use Rattle.meaning.specs.Rounds.{rounds}
 use Rattle.facts.specs.Facts.{members, AnyFrom}
 use Rattle.facts.proofs.Laws.{beyond}
 use Rattle.records.specs.Records.{given, _orElse_}
+use Rattle.records.proofs.Judging.{or-clear}
 use Rattle.records.specs.declared.Fault.{Fault}
 use Rattle.files.specs.Files.{factCount, modelOf, shapeFault, modelFault}
 use Rattle.files.proofs.Traces.{fine-shape}
@@ -27,19 +28,12 @@ use Rattle.closing.specs.Closing.{ClosesKnown, ClosedExactly}
 use Rattle.closing.specs.declared.Closed.{Closed}
 use Rattle.closing.proofs.Laws.{filled-unique, filled-number, filled-smallest, answered-rounds, answered-bound}
 
--- ---- room, as the code asks for it
+-- ---- room
 
-module _ (state table : List ℕ) where
-  -- One buffer is too short.
-  pub too-short : (length state < 512) ⊎ (ltb (length table) 4096 ≡ true) → noRoom state table ≡ true
-  unfolding noRoom
-  too-short (inl h) = rw (lt-ltb _ _ h)
-  too-short (inr e) = rw e (or-true (ltb (length state) 512))
-
-  -- Neither is.
-  pub long-enough : 512 ≤ length state → ltb (length table) 4096 ≡ false → noRoom state table ≡ false
-  unfolding noRoom
-  long-enough h e = rw (le-ltb _ _ h, e)
+-- Where there is room, the table has it.
+pub table-room : (state table : List ℕ) → noRoom state table ≡ false → 4096 ≤ length table
+unfolding noRoom
+table-room state table e = ltb-false _ _ (or-clear (ltb (length state) 512) _ e .1)
 
 -- ---- a bit from F on
 

@@ -27,12 +27,12 @@ use Rattle.closing.specs.declared.Closed.{Closed}
 -- ---- room
 
 module _ (state table : List ℕ) where
-  short-is : noRoom state table ≡ true → (length state < 512) ⊎ (length table < 4096)
+  pub short-is : noRoom state table ≡ true → (length state < 512) ⊎ (length table < 4096)
   unfolding noRoom
   short-is e =
       by-test (ltb (length state) 512) (λ q. inl (ltb-true _ _ q)) (λ q. inr (ltb-true _ _ (rw q at e)))
 
-  room-is : noRoom state table ≡ false → Room state table
+  pub room-is : noRoom state table ≡ false → Room state table
   unfolding noRoom
   room-is e =
       by-test (ltb (length state) 512) (λ q. absurd (true≢false (rw q at e)))
@@ -68,12 +68,12 @@ module _ (m state table : List ℕ) where
       alone-cause m (RefusedFor m state table) (RefusedFor.long room) (RefusedFor.version room)
       (λ _ _. RefusedFor.wrong room)
 
-  alone : modelFault m ≡ none → RightAlone m
+  pub alone : modelFault m ≡ none → RightAlone m
   alone e =
       let (size, first, right) = model-exactly m .0 e in
       record { size = size; first = first; model = right }
 
-  refusal-cause : {k : ℕ} → closeRefusal m state table ≡ some k → RefusedFor m state table k
+  pub refusal-cause : {k : ℕ} → closeRefusal m state table ≡ some k → RefusedFor m state table k
   unfolding closeRefusal given _orElse_
   refusal-cause {k} h =
       go (noRoom state table) refl (modelFault m) refl (someFrom (factCount m) (members state)) refl h
@@ -108,13 +108,13 @@ module _ (m state table : List ℕ) where
 
 -- ---- one cause
 
-short : {state table : List ℕ} → (length state < 512) ⊎ (length table < 4096) → Room state table → ⊥
+pub short : {state table : List ℕ} → (length state < 512) ⊎ (length table < 4096) → Room state table → ⊥
 short (inl h) room = omega (arith, room .bytes)
 short (inr h) room = omega (arith, room .entries)
 
 module _ {m state table : List ℕ} where
   -- Causes for what is lent have one number.
-  cause-one : {j k : ℕ} → RefusedFor m state table j → RefusedFor m state table k → j ≡ k
+  pub cause-one : {j k : ℕ} → RefusedFor m state table j → RefusedFor m state table k → j ≡ k
   cause-one (RefusedFor.room h1) (RefusedFor.room h2) = refl
   cause-one (RefusedFor.room h1) (RefusedFor.long r2 l2) = absurd (short h1 r2)
   cause-one (RefusedFor.room h1) (RefusedFor.version r2 s2 v2) = absurd (short h1 r2)
@@ -142,7 +142,7 @@ module _ {m state table : List ℕ} where
   cause-one (RefusedFor.fact r1 a1 f1 l1 t1) (RefusedFor.fact r2 a2 f2 l2 t2) = refl
 
   -- Where one is there, closing can't answer.
-  cause-answerable : {k : ℕ} → Answerable m state table → RefusedFor m state table k → ⊥
+  pub cause-answerable : {k : ℕ} → Answerable m state table → RefusedFor m state table k → ⊥
   cause-answerable a (RefusedFor.room h) = short h (a .room)
   cause-answerable a (RefusedFor.long r l) = omega (arith, a .model .size)
   cause-answerable a (RefusedFor.version r s v) = v (a .model .first)

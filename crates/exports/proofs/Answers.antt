@@ -15,9 +15,11 @@ use Rattle.files.specs.declared.Judged.{Judged}
 use Rattle.files.proofs.Answers.{judged-fine, judged-fault}
 use Rattle.closing.specs.Closing as closing
 use Rattle.closing.specs.declared.Closed.{Closed}
-use Rattle.checking.specs.Verdict.{Lent, Checked}
+use Rattle.closing.specs.declared.Crossed.{Crossed}
+use Rattle.checking.specs.Verdict.{Lent, verdictOf, Buffers, Checked, CheckedIndexed}
 use Rattle.checking.specs.declared.Verdict.{Verdict}
-use Rattle.exports.specs.Exports.{shorter, over, values, ChecksOut, unlessRefused, ClosesOut}
+use Rattle.exports.specs.Exports.{shorter, over, values, VerdictOut, ChecksOut, ChecksIndexedOut}
+use Rattle.exports.specs.Exports.{unlessRefused, ClosesOut, ClosesIndexedOut}
 use Rattle.exports.specs.Exports.{modelRefusal, figures, CountsOut}
 use Rattle.exports.proofs.Fronts.{stored}
 
@@ -29,18 +31,36 @@ pub no-verdict : (m t : List ℕ) (l : Lent) (out : List ℕ) → length out < 1
 unfolding shorter ChecksOut
 no-verdict m t l out short = rw (lt-ltb _ _ short) (refl, refl, refl)
 
+-- a verdict's number, values and buffers
+written-out : {refused : Option Verdict} {m t : List ℕ} {before after : Lent} {out out' : List ℕ} {v : Verdict}
+    → v ≡ verdictOf m t refused → Buffers m t refused before after → out' ≡ over (values v) out
+    → VerdictOut refused m t before after out out' (v .number)
+written-out {out = out} is buffers written = record {
+  number = ap (λ (w : Verdict). w .number) is;
+  values = written ∙ ap (λ (w : Verdict). over (values w) out) is;
+  buffers = buffers;
+}
+
 -- with room, its values are written
 pub some-verdict : (m t : List ℕ) (before after : Lent) (out out' : List ℕ) (v : Verdict) → 10 ≤ length out
     → Checked m t before after v → out' ≡ over (values v) out
     → ChecksOut (shorter out 10) m t before after out out' (v .number)
 unfolding shorter ChecksOut
 some-verdict m t before after out out' v room checked written =
-    rw (le-ltb _ _ room)
-    (record {
-      number = ap (λ (w : Verdict). w .number) (checked .verdict);
-      values = written ∙ ap (λ (w : Verdict). over (values w) out) (checked .verdict);
-      buffers = checked .buffers;
-    })
+    rw (le-ltb _ _ room) (written-out (checked .verdict) (checked .buffers) written)
+
+-- the same with an index lent
+pub no-verdict-indexed : (m t : List ℕ) (l : Lent) (ix out : List ℕ) → length out < 10
+    → ChecksIndexedOut (shorter out 10) m t l l ix ix out out 1
+unfolding shorter ChecksIndexedOut
+no-verdict-indexed m t l ix out short = rw (lt-ltb _ _ short) (refl, refl, refl, refl)
+
+pub some-verdict-indexed : (m t : List ℕ) (before after : Lent) (ix ix' out out' : List ℕ) (v : Verdict)
+    → 10 ≤ length out → CheckedIndexed m t before after ix ix' v → out' ≡ over (values v) out
+    → ChecksIndexedOut (shorter out 10) m t before after ix ix' out out' (v .number)
+unfolding shorter ChecksIndexedOut
+some-verdict-indexed m t before after ix ix' out out' v room checked written =
+    rw (le-ltb _ _ room) (written-out (checked .verdict) (checked .buffers) written, checked .index)
 
 -- ---- closing
 
@@ -87,6 +107,53 @@ module _ (m state table : List ℕ) where
           rounds = rw number;
           entries = closed .table;
         })
+
+-- ---- closing with an index lent
+
+-- rounds and crossings are answered where nothing is refused
+crossed-fine : (o : Option ℕ) (k l n c : ℕ) → Crossed.Rounds n c ≡ closing.answerIndexed o k l
+    → (o ≡ none) × (n ≡ k) × (c ≡ l)
+unfolding closing.answerIndexed
+crossed-fine none k l n c e = (refl, cc, cc)
+crossed-fine (some j) k l n c e = let z : _≡_ {A = ℕ} 0 1 = cc in absurd (omega arith)
+
+-- a refusal is answered by its number
+crossed-some : (o : Option ℕ) (k l n : ℕ) → Crossed.Refused n ≡ closing.answerIndexed o k l → o ≡ some n
+unfolding closing.answerIndexed
+crossed-some none k l n e = let z : _≡_ {A = ℕ} 0 1 = cc in absurd (omega arith)
+crossed-some (some j) k l n e = cc
+
+module _ (m state table ix : List ℕ) where
+  -- without room for them
+  pub no-crossings : (out : List ℕ) → length out < 2
+      → ClosesIndexedOut (shorter out 2) m state table table ix ix out out 1
+  unfolding shorter ClosesIndexedOut
+  no-crossings out short = rw (lt-ltb _ _ short) (refl, refl, refl, refl)
+
+  module _ (table' ix' out : List ℕ) (r : Crossed) (n : ℕ) (room : 2 ≤ length out)
+      (closed : closing.ClosesIndexed m state table table' ix ix' r) where
+    -- they are written
+    pub some-crossings : (c : ℕ) → r ≡ Crossed.Rounds n c
+        → ClosesIndexedOut (shorter out 2) m state table table' ix ix' out (set (set out 0 n) 1 c) 0
+    unfolding shorter ClosesIndexedOut code unlessRefused
+    some-crossings c told =
+        let (fine, rounds, crossings) = crossed-fine _ _ _ _ _ (sym told ∙ closed .answers) in
+        rw (le-ltb _ _ room)
+        (record {
+          number = rw fine;
+          rounds = rw (fine, ← rounds, ← crossings) (stored (n ∷ c ∷ []) out room);
+          entries = closed .table;
+          index = closed .index;
+        })
+
+    -- a refusal writes nothing
+    pub crossings-refused : r ≡ Crossed.Refused n
+        → ClosesIndexedOut (shorter out 2) m state table table' ix ix' out out n
+    unfolding shorter ClosesIndexedOut code unlessRefused
+    crossings-refused told =
+        let number = crossed-some _ _ _ _ (sym told ∙ closed .answers) in
+        rw (le-ltb _ _ room)
+        (record { number = rw number; rounds = rw number; entries = closed .table; index = closed .index })
 
 -- ---- a model's figures
 

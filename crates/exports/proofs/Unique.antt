@@ -5,11 +5,13 @@ use mathlib.Core.Bool.{Bool, true, false}
 use mathlib.Core.List.{List}
 use Rattle.facts.specs.Facts.{members}
 use Rattle.files.specs.Files.{modelOf}
-use Rattle.closing.specs.Closing.{closeRefusal}
+use Rattle.closing.specs.Closing.{closeRefusal, closeRefusalIndexed}
 use Rattle.closing.proofs.Alone.{table-unique}
-use Rattle.checking.specs.Verdict.{Lent, refusal}
+use Rattle.closing.proofs.Crossings.{index-left}
+use Rattle.checking.specs.Verdict.{Lent, refusal, refusalIndexed}
 use Rattle.checking.proofs.Theorems.{LentBytes, buffers-unique}
-use Rattle.exports.specs.Exports.{ChecksOut, ClosesOut, CountsOut, PartOut}
+use Rattle.exports.specs.Exports.{ChecksOut, ChecksIndexedOut, ClosesOut, ClosesIndexedOut}
+use Rattle.exports.specs.Exports.{CountsOut, PartOut}
 
 -- checking: the number, the values and the buffers
 module _ (m t : List ℕ) (before : Lent) {a b : Lent} (bytes-a : LentBytes a) (bytes-b : LentBytes b) where
@@ -23,6 +25,21 @@ module _ (m t : List ℕ) (before : Lent) {a b : Lent} (bytes-a : LentBytes a) (
     x .values ∙ sym (y .values),
   )
 
+  -- with an index lent, that too
+  pub checks-indexed-unique : (short : Bool) (ix i₁ i₂ out o₁ o₂ : List ℕ) (r₁ r₂ : ℕ)
+      → ChecksIndexedOut short m t before a ix i₁ out o₁ r₁ → ChecksIndexedOut short m t before b ix i₂ out o₂ r₂
+      → (r₁ ≡ r₂) × (a ≡ b) × (i₁ ≡ i₂) × (o₁ ≡ o₂)
+  unfolding ChecksIndexedOut
+  checks-indexed-unique true ix i₁ i₂ out o₁ o₂ r₁ r₂ x y =
+      (x .0 ∙ sym (y .0), x .1 ∙ sym (y .1), x .2 ∙ sym (y .2), x .3 ∙ sym (y .3))
+  checks-indexed-unique false ix i₁ i₂ out o₁ o₂ r₁ r₂ x y =
+      let refused = refusalIndexed m t before ix in (
+        x .0 .number ∙ sym (y .0 .number),
+        buffers-unique m t before bytes-a bytes-b refused (x .0 .buffers) (y .0 .buffers),
+        index-left refused (modelOf m .clauses) ix i₁ i₂ (x .1) (y .1),
+        x .0 .values ∙ sym (y .0 .values),
+      )
+
 -- closing: the answer, the table and the rounds
 module _ (m state table t₁ t₂ out o₁ o₂ : List ℕ) (r₁ r₂ : ℕ) where
   pub closes-unique : (short : Bool) → ClosesOut short m state table t₁ out o₁ r₁
@@ -35,6 +52,21 @@ module _ (m state table t₁ t₂ out o₁ o₂ : List ℕ) (r₁ r₂ : ℕ) wh
         (y .entries),
     x .rounds ∙ sym (y .rounds),
   )
+
+-- with an index lent, that and the crossings too
+module _ (m state table t₁ t₂ ix i₁ i₂ out o₁ o₂ : List ℕ) (r₁ r₂ : ℕ) where
+  pub closes-indexed-unique : (short : Bool) → ClosesIndexedOut short m state table t₁ ix i₁ out o₁ r₁
+      → ClosesIndexedOut short m state table t₂ ix i₂ out o₂ r₂ → (r₁ ≡ r₂) × (t₁ ≡ t₂) × (i₁ ≡ i₂) × (o₁ ≡ o₂)
+  unfolding ClosesIndexedOut
+  closes-indexed-unique true x y =
+      (x .0 ∙ sym (y .0), x .1 ∙ sym (y .1), x .2 ∙ sym (y .2), x .3 ∙ sym (y .3))
+  closes-indexed-unique false x y =
+      let refused = closeRefusalIndexed m state table ix in (
+        x .number ∙ sym (y .number),
+        table-unique refused (modelOf m .clauses) (members state) table t₁ t₂ (x .entries) (y .entries),
+        index-left refused (modelOf m .clauses) ix i₁ i₂ (x .index) (y .index),
+        x .rounds ∙ sym (y .rounds),
+      )
 
 -- counting: the answer and the counts
 module _ (m out o₁ o₂ : List ℕ) (r₁ r₂ : ℕ) where

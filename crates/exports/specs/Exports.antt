@@ -9,12 +9,12 @@ use lib.Dec.{ltb}
 use lib.ListN.{length, take, drop}
 use Rattle.meaning.specs.Model.{Model, aims}
 use Rattle.meaning.specs.Rounds as meant
+use Rattle.meaning.specs.Worklist.{placesIn}
 use Rattle.facts.specs.Facts.{members}
 use Rattle.records.specs.Answers.{code}
 use Rattle.files.specs.Files.{modelOf, modelFault}
-use Rattle.closing.specs.Closing.{closeRefusal, Table}
-use Rattle.checking.specs.Verdict.{Lent, refusal, Buffers}
-use Rattle.checking.specs.Promises.{verdict}
+use Rattle.closing.specs.Closing.{closeRefusal, closeRefusalIndexed, Table, Index}
+use Rattle.checking.specs.Verdict.{Lent, refusal, refusalIndexed, verdictOf, Buffers}
 use Rattle.checking.specs.declared.Verdict.{Verdict}
 
 -- whether a list has fewer than n entries
@@ -31,16 +31,25 @@ values v =
     v .number ∷ v .step ∷ v .fact ∷ v .rounds ∷ v .held ∷ v .kind ∷ v .round
     ∷ v .part .mark ∷ v .part .start ∷ v .part .size ∷ []
 
--- the answer with room for the verdict: its number, its values, and every byte and entry of the buffers
-pub record VerdictOut (m t : List ℕ) (before after : Lent) (out out' : List ℕ) (r : ℕ) : Type 0 where
-  pub number : r ≡ verdict m t before .number
-  pub values : out' ≡ over (values (verdict m t before)) out
-  pub buffers : Buffers m t (refusal m t before) before after
+-- the answer with room for the verdict, after what refuses it: its number, its values, and every byte and entry of the
+-- buffers
+pub record VerdictOut (refused : Option Verdict) (m t : List ℕ) (before after : Lent) (out out' : List ℕ)
+    (r : ℕ) : Type 0 where
+  pub number : r ≡ verdictOf m t refused .number
+  pub values : out' ≡ over (values (verdictOf m t refused)) out
+  pub buffers : Buffers m t refused before after
 
 -- what `cantivorex_check` promises: without room for the verdict, 1 and no change
 unfoldable pub ChecksOut : Bool → List ℕ → List ℕ → Lent → Lent → List ℕ → List ℕ → ℕ → Type 0
 ChecksOut true m t before after out out' r = (r ≡ 1) × (after ≡ before) × (out' ≡ out)
-ChecksOut false m t before after out out' r = VerdictOut m t before after out out' r
+ChecksOut false m t before after out out' r = VerdictOut (refusal m t before) m t before after out out' r
+
+-- what `cantivorex_check_indexed` promises: the same, with every entry of the index
+unfoldable pub ChecksIndexedOut : Bool → List ℕ → List ℕ → Lent → Lent → List ℕ → List ℕ → List ℕ → List ℕ → ℕ → Type 0
+ChecksIndexedOut true m t before after ix ix' out out' r = (r ≡ 1) × (after ≡ before) × (ix' ≡ ix) × (out' ≡ out)
+ChecksIndexedOut false m t before after ix ix' out out' r =
+    VerdictOut (refusalIndexed m t before ix) m t before after out out' r
+    × Index (refusalIndexed m t before ix) (modelOf m .clauses) ix ix'
 
 -- values at the front; a refusal writes nothing
 unfoldable pub unlessRefused : Option ℕ → List ℕ → List ℕ → List ℕ
@@ -59,6 +68,23 @@ pub record RoundsOut (m state table table' out out' : List ℕ) (r : ℕ) : Type
 unfoldable pub ClosesOut : Bool → List ℕ → List ℕ → List ℕ → List ℕ → List ℕ → List ℕ → ℕ → Type 0
 ClosesOut true m state table table' out out' r = (r ≡ 1) × (table' ≡ table) × (out' ≡ out)
 ClosesOut false m state table table' out out' r = RoundsOut m state table table' out out' r
+
+-- the answer with room for rounds and crossings, and every entry of the table and of the index
+pub record CrossingsOut (m state table table' ix ix' out out' : List ℕ) (r : ℕ) : Type 0 where
+  pub number : r ≡ code (closeRefusalIndexed m state table ix)
+  pub rounds : out'
+      ≡ unlessRefused (closeRefusalIndexed m state table ix)
+      (meant.rounds (modelOf m .clauses) (members state)
+      ∷ placesIn (meant.closure (modelOf m .clauses) (members state)) (modelOf m .clauses) ∷ []) out
+  pub entries : Table (closeRefusalIndexed m state table ix) (modelOf m .clauses) (members state) table table'
+  pub index : Index (closeRefusalIndexed m state table ix) (modelOf m .clauses) ix ix'
+
+-- what `cantivorex_close_indexed` promises: without room for rounds and crossings, 1 and no change
+unfoldable pub ClosesIndexedOut : Bool → List ℕ → List ℕ → List ℕ → List ℕ → List ℕ → List ℕ → List ℕ → List ℕ → ℕ
+    → Type 0
+ClosesIndexedOut true m state table table' ix ix' out out' r =
+    (r ≡ 1) × (table' ≡ table) × (ix' ≡ ix) × (out' ≡ out)
+ClosesIndexedOut false m state table table' ix ix' out out' r = CrossingsOut m state table table' ix ix' out out' r
 
 -- "4 to 7 for the model", 12 and 17, after its 2 and 3: "A refusal, here and in every later tool, is its number alone."
 unfoldable pub modelRefusal : List ℕ → Option ℕ

@@ -1,20 +1,25 @@
-// The library for C and Rust: four functions on numbers and slices. None has a requires; that the areas lent are there
+// The library for C and Rust: six functions on numbers and slices. None has a requires; that the areas lent are there
 // is the caller's to see to. include/cantivorex.h declares them for C.
 ghost use Prim.Native.Nat.{_≤_};
 ghost use mathlib.Core.Path.{_≡_};
 ghost use mathlib.Core.List.{[], _∷_};
 ghost use lib.ListN.{length};
-ghost use Rattle.exports.specs.Exports.{ChecksOut, ClosesOut, CountsOut, PartOut};
+ghost use Rattle.exports.specs.Exports.{ChecksOut, ChecksIndexedOut, ClosesOut, ClosesIndexedOut};
+ghost use Rattle.exports.specs.Exports.{CountsOut, PartOut};
 ghost use Rattle.exports.specs.Exports.{shorter, values, over};
 ghost use Rattle.files.specs.Answers.{partOf};
 use checking::Verdict;
 use closing::Closed;
+use closing::Crossed;
 use files::Counts;
 use files::Judged;
 use files::Part;
 use files::both;
 use files::held;
 use files::model;
+
+// How many values a verdict has.
+const VALUES: usize = 10;
 
 // Writes a verdict's ten values to the front.
 fn put(v: Verdict, out: &mut [u64])
@@ -50,10 +55,34 @@ pub extern "C" fn cantivorex_check(
         (record { state = now (state .exit); table = now (table .exit); names = now (names .exit) })
         (now (out .entry)) (now (out .exit)) r ⌝ }
 {
-    if out.len() < 10 {
+    if out.len() < VALUES {
         return 1;
     }
     let v = checking::check(model, trace, state, table, names);
+    put(v, out);
+    v.number
+}
+
+// The same with an index lent, which then holds each body place's clause number, by fact and then clause.
+#[no_mangle]
+pub extern "C" fn cantivorex_check_indexed(
+    model: &[u8],
+    trace: &[u8],
+    state: &mut [u8],
+    table: &mut [u16],
+    names: &mut [u8],
+    index: &mut [u16],
+    out: &mut [u64],
+) -> u8
+    ensures { λ r. ⌜ ChecksIndexedOut (shorter (now (out .entry)) 10) (now (model .entry)) (now (trace .entry))
+        (record { state = now (state .entry); table = now (table .entry); names = now (names .entry) })
+        (record { state = now (state .exit); table = now (table .exit); names = now (names .exit) })
+        (now (index .entry)) (now (index .exit)) (now (out .entry)) (now (out .exit)) r ⌝ }
+{
+    if out.len() < VALUES {
+        return 1;
+    }
+    let v = checking::check_indexed(model, trace, state, table, names, index);
     put(v, out);
     v.number
 }
@@ -79,6 +108,33 @@ pub extern "C" fn cantivorex_close(
             0
         }
         Closed::Refused(number) => number,
+    }
+}
+
+// Closing by itself with an index lent: 0, with the numbers of rounds and of body places crossed in the first two
+// entries of `out`, or a refusal's number, with nothing changed. Without room for them the answer is 1.
+#[no_mangle]
+pub extern "C" fn cantivorex_close_indexed(
+    model: &[u8],
+    state: &[u8],
+    table: &mut [u16],
+    index: &mut [u16],
+    out: &mut [u64],
+) -> u8
+    ensures { λ r. ⌜ ClosesIndexedOut (shorter (now (out .entry)) 2) (now (model .entry)) (now (state .entry))
+        (now (table .entry)) (now (table .exit)) (now (index .entry)) (now (index .exit)) (now (out .entry))
+        (now (out .exit)) r ⌝ }
+{
+    if out.len() < 2 {
+        return 1;
+    }
+    match closing::close_indexed(model, state, table, index) {
+        Crossed::Rounds(n, crossings) => {
+            out[0] = n as u64;
+            out[1] = crossings as u64;
+            0
+        }
+        Crossed::Refused(number) => number,
     }
 }
 

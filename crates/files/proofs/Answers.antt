@@ -1,11 +1,15 @@
 -- Laws on answers: what an answer for a model, for two files' heads and for a pair says of the fault.
 use Prim.Native.Nat.{ℕ}
 use mathlib.Core.Path.{_≡_, refl}
+use mathlib.Core.List.{List}
 use mathlib.Core.Option.{Option, none, some}
 use native.Mathlib.Omega.{arith}
 use Rattle.records.specs.declared.Fault.{Fault}
-use Rattle.files.specs.Files.{Blamed}
-use Rattle.files.specs.Answers.{judged, headed, paired, blamedNumber, blamedPart}
+use lib.ListN.{length}
+use Rattle.meaning.specs.Model.{aims}
+use Rattle.records.specs.Records.{_orElse_}
+use Rattle.files.specs.Files.{Blamed, modelOf, filesFault, stepsFault, pairFault}
+use Rattle.files.specs.Answers.{countsOf, judged, headed, paired, blamedNumber, blamedPart}
 use Rattle.files.specs.declared.Counts.{Counts}
 use Rattle.files.specs.declared.Heads.{Heads}
 use Rattle.files.specs.declared.Judged.{Judged}
@@ -75,3 +79,18 @@ pub blames-pair : {fault : Option Blamed} {k : ℕ} {p : Part} (n : Counts) → 
     → Pair.Fault k p ≡ paired fault n
 unfolding paired
 blames-pair n b = rw (b .is, b .number-is, b .part-is)
+
+-- ---- the stages
+
+-- A trace that is judged by a model's counts is judged by its goals and rules.
+pub steps-counted : (m t : List ℕ) (n : Counts) → countsOf m ≡ n
+    → paired (stepsFault (n .goals) (n .rules) t) n
+    ≡ paired (stepsFault (length (aims (modelOf m))) (length (modelOf m .rules)) t) (countsOf m)
+unfolding countsOf
+steps-counted m t n counts = rw (← counts)
+
+-- Where what comes before the trace is fine, the trace's own fault is the pair's.
+pub steps-after : (m t : List ℕ) (n : Counts) → filesFault m t ≡ none → countsOf m ≡ n
+    → paired (stepsFault (n .goals) (n .rules) t) n ≡ paired (pairFault m t) (countsOf m)
+unfolding pairFault _orElse_
+steps-after m t n fine counts = rw fine (steps-counted m t n counts)

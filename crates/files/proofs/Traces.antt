@@ -21,7 +21,8 @@ use Rattle.records.proofs.Judging.{or-clear}
 use Rattle.sections.specs.Sections.{long, sectionAt, fits, inSection, leftOver, tooLong, wrongVersion}
 use Rattle.files.specs.Files.{Blamed, entriesOf, modelOf, traceOf, shapeFault, modelBytes, traceBytes, traceShape}
 use Rattle.files.specs.Files.{modelVersion, traceVersion, modelFault}
-use Rattle.files.specs.Files.{traceCount, lacks, traceNames, traceFault, headsFault, filesFault, pairFault}
+use Rattle.files.specs.Files.{traceCount, lacks, traceNames, traceFault}
+use Rattle.files.specs.Files.{headsFault, filesFault, stepsFault, pairFault}
 use Rattle.files.specs.Files.Blamed.{model, trace}
 use Rattle.sections.proofs.Fits.{neither, not-given, section-fine}
 use Rattle.files.proofs.Order.{all-fine}
@@ -140,10 +141,26 @@ pub not-long : (most : ℕ) (file : List ℕ) → tooLong most file ≡ none →
 unfolding tooLong
 not-long most file e = ltb-false _ _ (not-given _ _ e)
 
--- A model by itself without a fault has none of 4 to 7.
+-- A model by itself without a fault has none of 4 to 7,
 pub fine-shape : (m : List ℕ) → modelFault m ≡ none → shapeFault m ≡ none
 unfolding modelFault
 fine-shape m e = neither (wrongVersion modelVersion m) _ (neither (tooLong modelBytes m) _ e .1) .1
+
+-- and is no longer than a model may be.
+pub fine-size : (m : List ℕ) → modelFault m ≡ none → length m ≤ 65536
+unfolding modelFault
+fine-size m e = not-long modelBytes m (neither (tooLong modelBytes m) _ e .0)
+
+-- Where sizes, versions and the model have none, neither has the model's shape,
+pub files-shape : (m t : List ℕ) → filesFault m t ≡ none → shapeFault m ≡ none
+unfolding filesFault
+files-shape m t e = map-eq-none-iff model (shapeFault m) .0 (neither (headsFault m t) _ e .1)
+
+-- and where the trace has none either, the pair has none.
+pub stages-fine : (m t : List ℕ) → filesFault m t ≡ none
+    → stepsFault (length (aims (modelOf m))) (length (modelOf m .rules)) t ≡ none → pairFault m t ≡ none
+unfolding pairFault _orElse_
+stages-fine m t files steps = rw (files, steps)
 
 -- In a pair with no fault nothing is wrong with either file.
 pub fine-pair : (m t : List ℕ) → pairFault m t ≡ none → FinePair m t

@@ -225,10 +225,12 @@ unfoldable pub filesFault : List ℕ → List ℕ → Option Blamed
 unfolding _orElse_ headsFault shapeFault
 filesFault m t = headsFault m t orElse Option·map model (shapeFault m)
 
--- "Then 4 for the trace .. then 5, then 9 .., all before any step is run."; "Goal numbers run on from the attack
--- states." (document 02, wish 11), so that 9 for a goal means as many as both together, or more
+-- "Then 4 for the trace .. then 5, then 9", for a model of so many goals and rules
+abbrev pub stepsFault : ℕ → ℕ → List ℕ → Option Blamed
+stepsFault goals rules t = Option·map trace (traceFault goals rules t)
+
+-- ".., all before any step is run."; "Goal numbers run on from the attack states." (document 02, wish 11), so that 9
+-- for a goal means as many as both together, or more
 unfoldable pub pairFault : List ℕ → List ℕ → Option Blamed
 unfolding _orElse_ filesFault traceFault modelOf aims
-pairFault m t =
-    filesFault m t
-    orElse Option·map trace (traceFault (length (aims (modelOf m))) (length (modelOf m .rules)) t)
+pairFault m t = filesFault m t orElse stepsFault (length (aims (modelOf m))) (length (modelOf m .rules)) t

@@ -1,8 +1,9 @@
 // A pair of files: the first fault of both in document 01's order, stage by stage, and the bytes at fault.
 ghost use mathlib.Core.Path.{_≡_};
 ghost use lib.ListN.{take, drop};
-ghost use Rattle.files.specs.Files.{headsFault, filesFault, pairFault};
+ghost use Rattle.files.specs.Files.{headsFault, filesFault, stepsFault, pairFault};
 ghost use Rattle.files.specs.Answers.{countsOf, headed, paired, partOf};
+use super::Counts;
 use super::Heads;
 use super::Judged;
 use super::Pair;
@@ -60,17 +61,25 @@ pub fn judge_files(model: &[u8], trace: &[u8]) -> Pair
     }
 }
 
-// The pair: what comes before the trace's own numbers, then the trace's 4, 5 and 9.
+// The last stage before the run, for a model of so many goals and rules: the trace's 4, 5 and 9.
+pub fn judge_steps(trace: &[u8], counts: Counts) -> Pair
+    ensures { λ r. ⌜ r
+        ≡ paired (stepsFault (counts .goals) (counts .rules) (now (trace .entry))) counts ⌝ }
+{
+    match trace::judge_trace(trace, counts.goals, counts.rules) {
+        Passed::Fault(fault) => Pair::Fault(fault.number, blame(1, fault)),
+        Passed::To { end: _, count: _ } => Pair::Fine(counts),
+    }
+}
+
+// The pair: what comes before the trace's own numbers, then those.
 pub fn judge_pair(model: &[u8], trace: &[u8]) -> Pair
     ensures { λ r. ⌜ r
         ≡ paired (pairFault (now (model .entry)) (now (trace .entry))) (countsOf (now (model .entry))) ⌝ }
 {
     match judge_files(model, trace) {
         Pair::Fault(number, part) => Pair::Fault(number, part),
-        Pair::Fine(counts) => match trace::judge_trace(trace, counts.goals, counts.rules) {
-            Passed::Fault(fault) => Pair::Fault(fault.number, blame(1, fault)),
-            Passed::To { end: _, count: _ } => Pair::Fine(counts),
-        },
+        Pair::Fine(counts) => judge_steps(trace, counts),
     }
 }
 

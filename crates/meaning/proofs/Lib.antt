@@ -1,6 +1,7 @@
 pub mod Counting
 pub mod Closing
 pub mod Places
+pub mod Indexes
 pub mod Arriving
 pub mod Worklist
 pub mod Meeting

@@ -3,12 +3,13 @@
 use Prim.Native.Nat.{ℕ, zero, suc, _+_, _≤_, _<_}
 use native.Mathlib.Nat.{zero-add, add-zero, eq-or-lt-of-le}
 use native.Mathlib.Omega.{arith}
+use native.Mathlib.Bridge.{le-prop}
 use mathlib.Core.Path.{_≡_, refl, sym, _∙_}
 use mathlib.Core.Logic.{_↔_, inl, inr, ∥∥₁-elim}
 use mathlib.Core.HLevel.{⊥-prop, ¬-prop}
 use mathlib.Core.Bool.{true, false, cond}
-use mathlib.Core.List.{List, [], _∷_, _++_, List·Nodup, nodup-nil, nodup-cons, Pairwise, pairwise-append}
-use mathlib.Core.List.{pairwise-singleton}
+use mathlib.Core.List.{List, [], _∷_, _++_, List·Nodup, nodup-nil, nodup-cons, Pairwise, Pairwise·nil, Pairwise·cons}
+use mathlib.Core.List.{Pairwise·imp, pairwise-append, pairwise-singleton}
 use mathlib.Core.List.{List·Memᴰ·head, List·Memᴰ·tail, List·Memᴰ·cases-cons, List·Memᴰ·not-nil}
 use mathlib.Core.List.{append-nil, Memᴰ·cast, Memᴰ·append-left, Memᴰ·append-right, List·Memᴰ·append-cases}
 use mathlib.Core.List.{List·Memᴰ·eq-of-singleton}
@@ -172,15 +173,19 @@ entry-from j (c ∷ cs) f k m =
     (λ e. elim (List·Memᴰ·cases-cons (rw e at m)) [ inl i ↦ omega arith | inr i ↦ later i ])
     (λ e. later (rw e at m))
 
--- Entries repeat nothing.
-pub entries-once : (j : ℕ) (cs : List Clause) (f : ℕ) → List·Nodup (entriesFrom j cs f)
+-- Entries ascend, ..
+pub entries-ascend : (j : ℕ) (cs : List Clause) (f : ℕ) → Pairwise _<_ (entriesFrom j cs f)
 unfolding entriesFrom
-entries-once j [] f = nodup-nil
-entries-once j (c ∷ cs) f =
-    let rest = entries-once (suc j) cs f in
+entries-ascend j [] f = Pairwise·nil
+entries-ascend j (c ∷ cs) f =
+    let rest = entries-ascend (suc j) cs f in
     by-test (listed (c .body) f)
-    (λ e. rw e (once-cons .1 (λ m. let l = entry-from (suc j) cs f j m in omega arith, rest)))
+    (λ e. rw e (Pairwise·cons (λ k m. ∥∥₁-elim m le-prop (entry-from (suc j) cs f k)) rest))
     (λ e. rw e rest)
+
+-- .. so that they repeat nothing.
+pub entries-once : (j : ℕ) (cs : List Clause) (f : ℕ) → List·Nodup (entriesFrom j cs f)
+entries-once j cs f = Pairwise·imp (λ a b l e. omega arith) (entries-ascend j cs f)
 
 -- A clause's number is among a fact's entries exactly if its body has the fact: where the first one's is j, ..
 entry-is : (j : ℕ) (cs : List Clause) (f i : ℕ)
@@ -274,11 +279,11 @@ once-below n xs u h =
     ) in
     omega (arith, stored-length n all)
 
-module _ {Q : ℕ → ℕ → Type 0} (p : (a b : ℕ) → IsProp (Q a b)) where
+module _ {A : Type 0} {Q : A → A → Type 0} (p : (a b : A) → IsProp (Q a b)) where
   -- Two lists, one after the other, are pairwise so exactly if each is and each entry of the first is so with each of
   -- the second.
-  pub pairs-apart : (xs ys : List ℕ)
-      → Pairwise Q (xs ++ ys) ↔ (Pairwise Q xs × Pairwise Q ys × ((a b : ℕ) → a ∈ xs → b ∈ ys → Q a b))
+  pub pairs-apart : (xs ys : List A)
+      → Pairwise Q (xs ++ ys) ↔ (Pairwise Q xs × Pairwise Q ys × ((a b : A) → a ∈ xs → b ∈ ys → Q a b))
   pairs-apart xs ys = (
     λ h. let (x, y, z) = pairwise-append p {l₁ = xs} {l₂ = ys} .0 h in (x, y, λ a b m i. z a ∣ m ∣₁ b ∣ i ∣₁),
     λ (x, y, z). pairwise-append p {l₁ = xs} {l₂ = ys} .1
@@ -286,7 +291,7 @@ module _ {Q : ℕ → ℕ → Type 0} (p : (a b : ℕ) → IsProp (Q a b)) where
   )
 
   -- One more at the end is so with all before it.
-  pub pairs-more : (xs : List ℕ) (y : ℕ) → Pairwise Q xs → ((a : ℕ) → a ∈ xs → Q a y) → Pairwise Q (xs ++ y ∷ [])
+  pub pairs-more : (xs : List A) (y : A) → Pairwise Q xs → ((a : A) → a ∈ xs → Q a y) → Pairwise Q (xs ++ y ∷ [])
   pairs-more xs y h z =
       pairs-apart xs (y ∷ []) .1 (h, pairwise-singleton Q y, λ a b m i. rw (List·Memᴰ·eq-of-singleton i) (z a m))
 

@@ -1,11 +1,11 @@
--- What demands 2 and 3 promise (specs/Promises) and what document 02 says of the worklist (wish 5), proved: each theorem
--- in one place, the work in the files beside this one.
+-- What demands 2 and 3 promise (specs/Promises) and what document 02 says of the worklist (wish 5), proved: each
+-- theorem in one place, the work in the files beside this one.
 use Prim.Native.Nat.{ℕ, zero, suc, _+_, _-_, _≤_, _<_}
 use native.Mathlib.Numerals.{add-one}
 use native.Mathlib.Omega.{arith}
 use mathlib.Core.Path.{_≡_, refl, sym, _∙_, ap}
 use mathlib.Core.Logic.{_↔_, _⊎_, inl, inr}
-use mathlib.Core.Bool.{Bool, true, false, not, _&&_, _||_, and-true}
+use mathlib.Core.Bool.{Bool, false, not, _&&_, _||_, and-true}
 use mathlib.Core.List.{List, [], _∷_, _++_, List·Nodup, List·Memᴰ·head, List·Memᴰ·not-nil, Memᴰ·append-right}
 use mathlib.Core.Option.{none, some}
 use lib.Dec.{T, eqb, ltb, ltb→lt, lt→ltb}
@@ -23,13 +23,14 @@ use Rattle.meaning.specs.Run.Condition.{positive, negative, unused}
 use Rattle.meaning.specs.Published.{HC, Meets, Fresh, Transition, Path, earlier, GoalMet, TrueAttack}
 use Rattle.meaning.specs.Published.Path.{here, step}
 use Rattle.meaning.specs.Promises.{IsRounds, AreMissingHeads, IsRoundNumber, Makes, Nameless, roundsOn, IsOutcome}
-use Rattle.meaning.specs.Promises.{Pastless}
+use Rattle.meaning.specs.Promises.{IsIndex, Pastless}
 use Rattle.meaning.specs.Promises.EndsSo.{attack, blocked, notMet}
 use Rattle.meaning.specs.Promises.FirstUnmet.{absent, present, inUse}
 use Rattle.sets.proofs.Laws.{passes, fails, by-test, both, every-in, every-intro, one-number}
 use Rattle.sets.proofs.Laws.{below-or-from, getD-in, listed-is}
 use Rattle.meaning.proofs.Closing
 use Rattle.meaning.proofs.Histories
+use Rattle.meaning.proofs.Indexes
 use Rattle.meaning.proofs.Places.{places-le, index-is}
 use Rattle.meaning.proofs.Worklist.{steps-counted, worked-rests, rests-all, rests-closure, rests-number}
 use Rattle.meaning.proofs.Worklist.{rests-latest, rests-crossings}
@@ -490,6 +491,15 @@ module _ {cs : List Clause} {S : Facts} (known : Known cs S) where
   -- .. of each of which the index holds the clause's number.
   pub index-length : length (indexBelow 4096 cs) ≡ bodyPlaces cs
   index-length = index-is 4096 cs (known .once) (known .bodies)
+
+-- "each body place's clause number, by fact and then clause": of clauses whose body facts are below 4,096 these, ..
+pub index-places : (cs : List Clause) → ((c : Clause) → c ∈ cs → (b : ℕ) → b ∈ c .body → b < 4096)
+    → IsIndex cs (indexBelow 4096 cs)
+index-places cs = Indexes.index-exactly cs 4096
+
+-- .. and no other list.
+pub index-unique : {cs : List Clause} {xs ys : List ℕ} → IsIndex cs xs → IsIndex cs ys → xs ≡ ys
+index-unique = Indexes.index-unique
 
 -- "The count of crossings equals the steps of the worklist as defined".
 pub steps-are-crossings : (cs : List Clause) (S : Facts) → worked cs S .crossings ≡ length (steps cs S)

@@ -1,9 +1,10 @@
 -- What demands 2 and 3 promise, as statements about the definitions beside this file.
 -- proofs/Theorems.antt proves each of them.
-use Prim.Native.Nat.{ℕ, _+_, _<_}
+use Prim.Native.Nat.{ℕ, _+_, _≤_, _<_}
 use mathlib.Core.Path.{_≡_}
+use mathlib.Core.Logic.{_↔_}
 use mathlib.Core.Bool.{true}
-use mathlib.Core.List.{List, [], _∷_, _++_, List·Nodup}
+use mathlib.Core.List.{List, [], _∷_, _++_, map, List·Nodup, Pairwise}
 use lib.Dec.{T}
 use lib.ListN.{length, getD, take}
 use Rattle.sets.specs.Sets.{Facts, size, _∈_}
@@ -35,6 +36,18 @@ pub record IsRoundNumber (cs : List Clause) (S : Facts) (f n : ℕ) : Type 0 whe
   pub stands : T (closure cs S f) → T (round cs S n f)
   pub first : T (closure cs S f) → (r : ℕ) → r < n → T (round cs S r f) → ⊥
   pub outside : (T (closure cs S f) → ⊥) → n ≡ 65535
+
+-- "by fact and then clause", of two body places, each a fact and the number of a clause that has it in its body
+abbrev pub Before : ℕ × ℕ → ℕ × ℕ → Type 0
+Before p q = (p .0 ≤ q .0) × (p .0 ≡ q .0 → p .1 < q .1)
+
+-- xs is "each body place's clause number, by fact and then clause" (document 02, wish 5)
+pub record IsIndex (cs : List Clause) (xs : List ℕ) : Type 0 where
+  pub places : List (ℕ × ℕ)
+  pub order : Pairwise Before places
+  pub each : (f k : ℕ)
+      → ((f, k) ∈ places) ↔ ((k < length cs) × (f ∈ getD cs k (record { head = 0; body = [] }) .body))
+  pub numbers : xs ≡ map (λ p. p .1) places
 
 -- The first condition not met in X: a fact of P that is not in X, all of P before it being in X; or, where all of P
 -- is in X, a fact of N that is in X, none of N before it being so; or, where all of these are met, a name that is used,

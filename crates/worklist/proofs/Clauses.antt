@@ -8,13 +8,14 @@ use lib.Seq.{drop-drop, getD-drop, getD-take}
 use Rattle.meaning.specs.Model.{Clause}
 use Rattle.meaning.specs.Working.{clauseAt}
 use Rattle.records.specs.Words.{word, words}
-use Rattle.records.specs.Records.{recordOf, records, placeOf}
+use Rattle.records.specs.Records.{recordOf, records}
 use Rattle.records.specs.declared.Kind.{Kind}
 use Rattle.records.proofs.Words.{length-words}
 use Rattle.records.proofs.Places.{place-record, record-in}
 use Rattle.lists.specs.Lists.{AllCut}
 use Rattle.lists.proofs.Clauses.{clause-bytes}
 use Rattle.files.specs.Files.{clauseOf, clausesIn}
+use Rattle.worklist.specs.Working.{Placed}
 
 -- Clause k stands at a place: its length, which is its head's 2 bytes and 2 for each body fact, then its head.
 pub record ClauseAt (section : List ℕ) (k at : ℕ) : Type 0 where
@@ -31,16 +32,17 @@ word-within m bytes h =
     in
     rw (byte 0 (omega arith), byte 1 (omega arith))
 
-module _ (section : List ℕ) (all : AllCut Kind.Clause section) (k at : ℕ) (h : k < length (clausesIn section))
-    (starts : at ≡ placeOf k (records section)) where
-  pub clause-there : ClauseAt section k at
+module _ (section : List ℕ) (all : AllCut Kind.Clause section) {starts : List ℕ} (placed : Placed section starts)
+    (k : ℕ) (h : k < length starts) where
+  pub clause-there : ClauseAt section k (getD starts k 0)
   unfolding AllCut clausesIn clauseOf words word
   clause-there =
       let rs = records section in
+      let at = getD starts k 0 in
       let from = drop at section in
       let r = getD rs k [] in
-      let number : k < length rs = rw length-map at h in
-      let there : recordOf from ≡ r = rw starts (place-record section k number) in
+      let number : k < length rs = omega (arith, length-map rs clauseOf) in
+      let there : recordOf from ≡ r = rw (placed .places k h) (place-record section k number) in
       let b = clause-bytes from (rw there (all r (record-in rs k number))) in
       let is : r ≡ take (2 + word from) from = sym there ∙ b .is in
       let nth : clauseAt (clausesIn section) k ≡ clauseOf r = List·getD-map clauseOf rs k [] in

@@ -19,7 +19,7 @@ use Rattle.lists.proofs.Sorted.{ascending-once}
 use Rattle.sections.specs.declared.Role.{Role}
 use Rattle.files.specs.Files.{sectionOf, modelOf, shapeFault}
 use Rattle.files.proofs.Laws.{facts-bound, clauses-cut, clauses-bound, clause-below, clause-body}
-use Rattle.worklist.specs.Working.{stateIn, Begun, Judged, Closes}
+use Rattle.worklist.specs.Working.{stateIn, Begun, Judged, Works}
 use Rattle.worklist.specs.declared.Worked.{Worked}
 
 -- An array of zeros has 0 everywhere.
@@ -30,10 +30,10 @@ zeros-at n k =
 
 -- Closing from a table that tells the same state, and is the same beyond its numbers.
 pub closes-from : {cs : List Clause} {S R : Facts} {before begun after : List ℕ} {r : Worked} → R ≡ S
-    → length begun ≡ length before → drop 4096 begun ≡ drop 4096 before → Closes cs R begun after r
-    → Closes cs S before after r
+    → length begun ≡ length before → drop 4096 begun ≡ drop 4096 before → Works cs R begun after r
+    → Works cs S before after r
 closes-from {cs} {S} {R} {before} {begun} {after} {r} same long beyond c =
-    let done : Closes cs S begun after r = rw same at c in
+    let done : Works cs S begun after r = rw same at c in
     record {
       rounds = done .rounds;
       crossings = done .crossings;
@@ -83,5 +83,5 @@ judged-model m fine low = record {
 
 -- The crossings are the steps of the worklist as defined.
 pub crossings-steps : {cs : List Clause} {S : Facts} → Known cs S → {before after : List ℕ} {r : Worked}
-    → Closes cs S before after r → r .crossings ≡ length (steps cs S)
+    → Works cs S before after r → r .crossings ≡ length (steps cs S)
 crossings-steps {cs} {S} known c = c .crossings ∙ sym (worked-crossings known) ∙ steps-are-crossings cs S

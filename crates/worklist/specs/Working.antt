@@ -32,27 +32,28 @@ pub record Judged (section : List ℕ) (S : Facts) : Type 0 where
   pub known : Known (clausesIn section) S
   pub short : (c : Clause) → c ∈ clausesIn section → length (c .body) ≤ 16
 
--- where the record of each clause starts
-abbrev pub Placed : List ℕ → List ℕ → Type 0
-Placed section starts = (k : ℕ) → k < length (clausesIn section) → getD starts k 0 ≡ placeOf k (records section)
+-- where the record of each clause starts, an entry a clause
+pub record Placed (section starts : List ℕ) : Type 0 where
+  pub count : length starts ≡ length (clausesIn section)
+  pub places : (k : ℕ) → k < length starts → getD starts k 0 ≡ placeOf k (records section)
 
 -- "The lent index then holds each body place's clause number, by fact and then clause": those of fact f stand from
 -- entry `ends f` on and before entry `ends (f + 1)`
 pub record Listed (cs : List Clause) (index ends : List ℕ) : Type 0 where
   pub entries : take (bodyPlaces cs) index ≡ indexBelow 4096 cs
+  pub room : 4097 ≤ length ends
   pub bounds : (f : ℕ) → f ≤ 4096 → getD ends f 0 ≡ length (indexBelow f cs)
 
 -- what closing by the index asks for
-pub record Workable (section table index ends starts : List ℕ) (count : ℕ) : Type 0 where
+pub record Workable (section table index ends starts : List ℕ) : Type 0 where
   pub judged : Judged section (stateIn table)
-  pub counted : count ≡ length (clausesIn section)
   pub begun : Begun table
   pub listed : Listed (clausesIn section) index ends
   pub places : Placed section starts
 
 -- "answers the number of rounds", each fact's round number, "Anything beyond is unchanged."; "The count of crossings
 -- equals .. the number of body places whose fact is in the closure"
-pub record Closes (cs : List Clause) (S : Facts) (before after : List ℕ) (r : Worked) : Type 0 where
+pub record Works (cs : List Clause) (S : Facts) (before after : List ℕ) (r : Worked) : Type 0 where
   pub rounds : r .rounds ≡ rounds cs S
   pub crossings : r .crossings ≡ placesIn (closure cs S) cs
   pub as-long : length after ≡ length before

@@ -8,7 +8,7 @@ ghost use Rattle.records.specs.declared.Kind.{Kind};
 ghost use Rattle.lists.specs.Lists.{AllCut};
 ghost use Rattle.meaning.specs.Worklist.{cross, crossAll};
 ghost use Rattle.files.specs.Files.{clausesIn};
-ghost use Rattle.worklist.specs.Working.{stateIn, Begun, Judged, Placed, Listed, Workable, Closes};
+ghost use Rattle.worklist.specs.Working.{stateIn, Begun, Judged, Placed, Listed, Workable, Works};
 ghost use Rattle.worklist.specs.Arrays.{arrays, latestIn, Does, Gathered, Starts, Arrives, Crossable};
 ghost use Rattle.worklist.specs.Arrays.{Amid, Between};
 
@@ -54,21 +54,20 @@ fn arrive(f: usize, r: u16, table: &mut [u16], queue: &mut [u16; 4096], n: usize
 // empty body, which arrive in round 1. Answers how many have arrived.
 fn start(
     clauses: &[u8],
-    count: usize,
-    starts: &[u16; 4096],
+    starts: &[u16],
     lacks: &mut [u8; 4096],
     table: &mut [u16],
     queue: &mut [u16; 4096],
     stored: usize,
 ) -> usize
-    requires { ⌜ Judged (now clauses) (stateIn (now table)) × (count ≡ length (clausesIn (now clauses)))
-        × Placed (now clauses) (now starts) × (length (now lacks) ≡ 4096) × ((k : ℕ) → getD (now lacks) k 0 ≡ 0)
+    requires { ⌜ Judged (now clauses) (stateIn (now table)) × Placed (now clauses) (now starts)
+        × (length (now lacks) ≡ 4096) × ((k : ℕ) → getD (now lacks) k 0 ≡ 0)
         × Begun (now table) × Gathered (stateIn (now table)) stored (now queue) ⌝ }
     ensures { λ n. ⌜ Starts (clausesIn (now (clauses .entry))) (stateIn (now (table .entry))) (now (table .entry))
         (arrays (now (lacks .exit)) (now (table .exit)) (now (queue .exit)) n) ⌝ }
 {
     let mut n = stored;
-    for k in 0..count {
+    for k in 0..starts.len() {
         let at = starts[k] as usize;
         // A record is its length, its head and its body's facts, 2 bytes each.
         let body = records::word_at(clauses, at) - 2;
@@ -85,7 +84,7 @@ fn start(
 // Answers how many facts have arrived.
 fn cross(
     clauses: &[u8],
-    starts: &[u16; 4096],
+    starts: &[u16],
     k: usize,
     r: u16,
     lacks: &mut [u8; 4096],
@@ -112,7 +111,7 @@ fn cross(
 // arrived.
 fn cross_all(
     clauses: &[u8],
-    starts: &[u16; 4096],
+    starts: &[u16],
     entries: &[u16],
     r: u16,
     lacks: &mut [u8; 4096],
@@ -151,8 +150,8 @@ fn drain(
     clauses: &[u8],
     table: &mut [u16],
     index: &[u16],
-    ends: &[u16; 4097],
-    starts: &[u16; 4096],
+    ends: &[u16],
+    starts: &[u16],
     lacks: &mut [u8; 4096],
     queue: &mut [u16; 4096],
     begun: usize,
@@ -160,7 +159,7 @@ fn drain(
     requires { ⌜ Judged (now clauses) (stateIn (now table)) × Listed (clausesIn (now clauses)) (now index) (now ends)
         × Placed (now clauses) (now starts) × Between (clausesIn (now clauses)) (stateIn (now table)) 0 0
         (arrays (now lacks) (now table) (now queue) begun) ⌝ }
-    ensures { λ r. ⌜ Closes (clausesIn (now (clauses .entry))) (stateIn (now (table .entry))) (now (table .entry))
+    ensures { λ r. ⌜ Works (clausesIn (now (clauses .entry))) (stateIn (now (table .entry))) (now (table .entry))
         (now (table .exit)) r ⌝ }
 {
     let mut n = begun;
@@ -182,32 +181,17 @@ fn drain(
     }
 }
 
-// Closes by the index, under so many judged clauses: the table holds round 0, and afterwards every fact's round number.
-// The caller has judged the clauses' section and built the index, and lends at least 4,096 entries.
-pub fn run(
-    clauses: &[u8],
-    count: usize,
-    table: &mut [u16],
-    index: &[u16],
-    ends: &[u16; 4097],
-    starts: &[u16; 4096],
-) -> Worked
-    requires { ⌜ Workable (now clauses) (now table) (now index) (now ends) (now starts) count ⌝ }
-    ensures { λ r. ⌜ Closes (clausesIn (now (clauses .entry))) (stateIn (now (table .entry))) (now (table .entry))
+// Works by the index, under judged clauses: the table, of at least 4,096 entries, holds round 0, and afterwards every
+// fact's round number. The caller has built the index; there is a start for each clause.
+pub fn run(clauses: &[u8], table: &mut [u16], index: &[u16], ends: &[u16], starts: &[u16]) -> Worked
+    requires { ⌜ Workable (now clauses) (now table) (now index) (now ends) (now starts) ⌝ }
+    ensures { λ r. ⌜ Works (clausesIn (now (clauses .entry))) (stateIn (now (table .entry))) (now (table .entry))
         (now (table .exit)) r ⌝ }
 {
     let mut lacks = [0u8; 4096];
     let mut queue = [0u16; 4096];
     let stored = gather(table, &mut queue);
-    let n = start(
-        clauses,
-        count,
-        starts,
-        &mut lacks,
-        table,
-        &mut queue,
-        stored,
-    );
+    let n = start(clauses, starts, &mut lacks, table, &mut queue, stored);
     drain(
         clauses,
         table,

@@ -29,8 +29,8 @@ returns c =
     fine-refused (now (s .args .model)) (now (s .args .state)) (now (s .args .table))
     (sym (from-is (c .before)) ∙ c .if1 .taken)
 
-close-judged-requires : tie.Need-close-judged-requires
-close-judged-requires c κs = search needs
+close-swept-requires : tie.Need-close-swept-requires
+close-swept-requires c κs = search needs
 
 same-length : tie.Need-same-length
 same-length c = search needs
@@ -40,9 +40,9 @@ returns-2 c =
     let tested = c .before .before .before .before in
     let s = tested .before .before .before .before .before .before in
     fine-closed (now (s .args .model)) (now (s .args .state)) (now (s .args .table)) _ _
-    (sym (from-is (tested .before)) ∙ tested .if1 .left) (c .before .before .close-judged .ensures)
+    (sym (from-is (tested .before)) ∙ tested .if1 .left) (c .before .before .close-swept .ensures)
 
 pub close-known-spec : {M : Type 1} → statement M
 close-known-spec =
     tie.close
-    (tie.spec facts-requires any-from-requires returns close-judged-requires same-length returns-2)
+    (tie.spec facts-requires any-from-requires returns close-swept-requires same-length returns-2)

@@ -11,7 +11,7 @@ use Rattle.worklist.proofs.cross.Tie as tie
 
 -- The clause stands where the table of starts says.
 there : (c : tie.Start) → ClauseAt (now (c .args .clauses)) (c .args .k) (getD (now (c .args .starts)) (c .args .k) 0)
-there c = clause-there _ (c .pre .0) _ _ (c .pre .2 .number) (c .pre .1 _ (c .pre .2 .number))
+there c = clause-there _ (c .pre .0) (c .pre .1) _ (omega arith)
 
 element-copy-out-left : tie.Need-element-copy-out-left
 element-copy-out-left c = search needs
@@ -25,22 +25,22 @@ element-write-lacks c = search needs
 mul-word-at : tie.Need-mul-word-at
 mul-word-at c = search needs
 
-element-copy-out-word-at : tie.Need-element-copy-out-word-at
-element-copy-out-word-at c = search needs
+shared-slice-read-word-at : tie.Need-shared-slice-read-word-at
+shared-slice-read-word-at c = search needs
 
 cast-word-at : tie.Need-cast-word-at
-cast-word-at c = omega (arith, there (c .before .before .before .before .before) .fits)
+cast-word-at c = omega (arith, there (c .before .before .before .before .before .before) .fits)
 
 add-word-at : tie.Need-add-word-at
-add-word-at c = omega (arith, there (c .before .before .before .before .before) .fits)
+add-word-at c = omega (arith, there (c .before .before .before .before .before .before) .fits)
 
 word-at-requires : tie.Need-word-at-requires
-word-at-requires c κs = omega (arith, there (c .before .before .before .before .before) .fits)
+word-at-requires c κs = omega (arith, there (c .before .before .before .before .before .before) .fits)
 
 arrive-requires : tie.Need-arrive-requires
 arrive-requires c κs =
     let word = c .before .before in
-    let entry = word .before .before .before .before .before .before in
+    let entry = word .before .before .before .before .before .before .before in
     let can = entry .pre .2 in
     let head = word .word-at .ensures ∙ there entry .head in
     rw head (can .head, can .fits .table, can .room)
@@ -51,13 +51,13 @@ same-length c = search needs
 returns : tie.Need-returns
 returns c =
     let word = c .before .before .before .before .before in
-    let entry = word .before .before .before .before .before .before in
+    let entry = word .before .before .before .before .before .before .before in
     let head = word .word-at .ensures ∙ there entry .head in
     cross-last _ _ _ _ _ _ _ (entry .pre .2) (word .before .before .if1 .taken)
     (rw head at (c .before .before .arrive .ensures))
 
 returns-2 : tie.Need-returns-2
-returns-2 c = cross-more _ _ _ _ _ _ _ (c .before .before .before .before .pre .2) (c .if1 .left)
+returns-2 c = cross-more _ _ _ _ _ _ _ (c .before .before .before .before .before .pre .2) (c .if1 .left)
 
 pub cross-spec : {M : Type 1} → statement M
 cross-spec =
@@ -67,7 +67,7 @@ cross-spec =
     sub-left
     element-write-lacks
     mul-word-at
-    element-copy-out-word-at
+    shared-slice-read-word-at
     cast-word-at
     add-word-at
     word-at-requires

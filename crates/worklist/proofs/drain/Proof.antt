@@ -28,12 +28,12 @@ abbrev μ-loop : tie.MeasureT-loop
     4096 - at
 
 loop-holds : tie.Need-loop-holds Inv-loop μ-loop
-loop-holds c = (c .before .before .before .pre .3, refl, refl)
+loop-holds c = (c .before .before .before .before .before .pre .3, refl, refl)
 
 -- In a turn: the first fact that waits, and its entries.
 module _ (c : tie.In-loop Inv-loop μ-loop) where
   abbrev entry : tie.Start Inv-loop μ-loop
-  entry = c .before .before .before .before .before
+  entry = c .before .before .before .before .before .before .before
 
   abbrev cs : List Clause
   cs = clausesIn (now (entry .args .clauses))
@@ -75,8 +75,8 @@ cast-f c = omega (arith, low (c .before))
 mul-from : tie.Need-mul-from Inv-loop μ-loop
 mul-from c = omega (arith, low (c .before))
 
-element-copy-out-from : tie.Need-element-copy-out-from Inv-loop μ-loop
-element-copy-out-from c = omega (arith, low (c .before))
+shared-slice-read-from : tie.Need-shared-slice-read-from Inv-loop μ-loop
+shared-slice-read-from c = omega (arith, low (c .before .before))
 
 cast-from : tie.Need-cast-from Inv-loop μ-loop
 cast-from c = omega (arith, here (c .before .before) .order, here (c .before .before) .fits)
@@ -87,8 +87,8 @@ add-end c = omega (arith, low (c .before .before))
 mul-end : tie.Need-mul-end Inv-loop μ-loop
 mul-end c = omega (arith, low (c .before .before))
 
-element-copy-out-end : tie.Need-element-copy-out-end Inv-loop μ-loop
-element-copy-out-end c = omega (arith, low (c .before .before))
+shared-slice-read-end : tie.Need-shared-slice-read-end Inv-loop μ-loop
+shared-slice-read-end c = omega (arith, low (c .before .before .before))
 
 cast-end : tie.Need-cast-end Inv-loop μ-loop
 cast-end c = omega (arith, here (c .before .before .before) .fits)
@@ -163,7 +163,7 @@ same-length c = c .before .before .before .before .loop .inv .1
 returns : tie.Need-returns Inv-loop μ-loop
 returns c =
     let loop = c .before .before .before .before in
-    let entry = loop .before .before .before .before in
+    let entry = loop .before .before .before .before .before .before in
     let known = entry .pre .0 .known in
     let between = loop .loop .inv .0 in
     let done = c .before .before .before .loop-test .left in
@@ -186,11 +186,11 @@ drain-spec =
     element-copy-out-f
     cast-f
     mul-from
-    element-copy-out-from
+    shared-slice-read-from
     cast-from
     add-end
     mul-end
-    element-copy-out-end
+    shared-slice-read-end
     cast-end
     mul-entries
     sub-entries

@@ -5,34 +5,28 @@ use Rattle.worklist.proofs.Laws.{zeros-at, closes-from}
 use Rattle.worklist.proofs.run.Statement.{statement}
 use Rattle.worklist.proofs.run.Tie as tie
 
+-- Once the queue is lent: the function's entry.
+abbrev entry : tie.After-queue → tie.Start
+entry c = c .before .before .before .before .before .before .before
+
 gather-requires : tie.Need-gather-requires
-gather-requires c κs = (c .before .before .before .before .before .pre .begun .room, refl)
+gather-requires c κs = (entry c .pre .begun .room, refl)
 
 start-requires : tie.Need-start-requires
 start-requires c κs =
-    let pre = c .before .before .before .before .before .before .before .before .before .pre in (
-      pre .judged,
-      pre .counted,
-      pre .places,
-      refl,
-      zeros-at 4096,
-      pre .begun,
-      c .before .before .before .gather .ensures,
-    )
-
--- Once the worklist has begun: the function's entry.
-abbrev entry : tie.After-start → tie.Start
-entry c = c .before .before .before .before .before .before .before .before .before .before
+    let gathered = c .before .before .before in
+    let pre = entry (gathered .before) .pre in
+    (pre .judged, pre .places, refl, zeros-at 4096, pre .begun, gathered .gather .ensures)
 
 drain-requires : tie.Need-drain-requires
 drain-requires c κs =
     let started = c .before .before .before .before .before in
-    let judged = entry started .pre .judged in
+    let pre = entry (started .before .before .before .before .before) .pre in
     let begun = started .start .ensures in (
-      rw (begun .state) judged,
-      entry started .pre .listed,
-      entry started .pre .places,
-      rw (begun .state) (between-start (judged .known) begun),
+      rw (begun .state) (pre .judged),
+      pre .listed,
+      pre .places,
+      rw (begun .state) (between-start (pre .judged .known) begun),
     )
 
 abbrev begun : tie.After-slice-known3 → tie.After-start

@@ -17,21 +17,21 @@ use Rattle.worklist.proofs.start.Statement.{statement}
 use Rattle.worklist.proofs.start.Tie as tie
 
 abbrev Inv-loop : tie.InvT-loop
-Inv-loop clauses count starts lacks₀ table₀ queue₀ stored n₀ k₀ lacks table queue n k =
+Inv-loop clauses starts lacks₀ table₀ queue₀ stored n₀ k₀ k-end lacks table queue n k =
     Opened (clausesIn clauses) (stateIn table₀) table₀ k (arrays lacks table queue n)
 
 abbrev μ-loop : tie.MeasureT-loop
-μ-loop clauses count starts lacks₀ table₀ queue₀ stored n₀ k₀ lacks table queue n k = count - k
+μ-loop clauses starts lacks₀ table₀ queue₀ stored n₀ k₀ k-end lacks table queue n k = k-end - k
 
 loop-holds : tie.Need-loop-holds Inv-loop μ-loop
 loop-holds c =
-    let pre = c .before .before .pre in
-    opened-start (pre .0 .known) (pre .5) (pre .6) _ (pre .3) (pre .4)
+    let pre = c .before .before .before .pre in
+    opened-start (pre .0 .known) (pre .4) (pre .5) _ (pre .2) (pre .3)
 
 -- In a turn: clause k, whose place is looked up.
 module _ (c : tie.In-loop Inv-loop μ-loop) where
   abbrev entry : tie.Start Inv-loop μ-loop
-  entry = c .before .before .before .before
+  entry = c .before .before .before .before .before
 
   abbrev clauses : List ℕ
   clauses = now (entry .args .clauses)
@@ -43,13 +43,13 @@ module _ (c : tie.In-loop Inv-loop μ-loop) where
   k = c .before .loop .k
 
   inside : k < length (clausesIn clauses)
-  inside = omega (arith, c .loop-test .taken, entry .pre .1)
+  inside = omega arith
 
   low : k < 4096
   low = omega (arith, inside, judged .known .count)
 
   there : ClauseAt clauses k (getD (now (entry .args .starts)) k 0)
-  there = clause-there clauses (judged .cut) k _ inside (entry .pre .2 k inside)
+  there = clause-there clauses (judged .cut) (entry .pre .1) k (c .loop-test .taken)
 
   short : length (clauseAt (clausesIn clauses) k .body) ≤ 16
   short = judged .short (clauseAt (clausesIn clauses) k) (clause-in (clausesIn clauses) k inside)
@@ -57,8 +57,8 @@ module _ (c : tie.In-loop Inv-loop μ-loop) where
 mul-at : tie.Need-mul-at Inv-loop μ-loop
 mul-at c = omega (arith, low c)
 
-element-copy-out-at : tie.Need-element-copy-out-at Inv-loop μ-loop
-element-copy-out-at c = low c
+shared-slice-read-at : tie.Need-shared-slice-read-at Inv-loop μ-loop
+shared-slice-read-at c = c .before .loop-test .taken
 
 cast-at : tie.Need-cast-at Inv-loop μ-loop
 cast-at c = omega (arith, there (c .before) .fits)
@@ -128,8 +128,8 @@ same-length c = c .before .loop .inv .as-long
 
 returns : tie.Need-returns Inv-loop μ-loop
 returns c =
-    let entry = c .before .before .before .before in
-    opened-end (entry .pre .0 .known) (c .before .loop .inv) (omega (arith, c .loop-test .left, entry .pre .1))
+    let entry = c .before .before .before .before .before in
+    opened-end (entry .pre .0 .known) (c .before .loop .inv) (omega arith)
 
 pub start-spec : {M : Type 1} → statement M
 start-spec =
@@ -139,7 +139,7 @@ start-spec =
     μ-loop
     loop-holds
     mul-at
-    element-copy-out-at
+    shared-slice-read-at
     cast-at
     word-at-requires
     sub-body

@@ -11,7 +11,8 @@ use Rattle.checking.proofs.running.finish.Statement.{statement}
 use Rattle.checking.proofs.running.finish.Tie as tie
 
 abbrev start : tie.After-close-judged → tie.Start
-start c = c .before .before .before .before .before .before .before .before .before .before .before
+start c = c .before .before .before .before .before .before .before .before .before .before .before .before .before
+    .before
 
 abbrev closed-at : tie.After-struct-known → tie.After-close-judged
 closed-at c = c .before .before .before .before .before .before .before .before
@@ -24,8 +25,8 @@ enum-told c = search needs
 
 close-judged-requires : tie.Need-close-judged-requires
 close-judged-requires c κs =
-    let s = c .before .before .before .before .before .before .before .before .before .before in
-    (pair-shape _ _ (s .pre .0 .fine), s .pre .0 .entries)
+    let s = c .before .before .before .before .before .before .before .before .before .before .before .before .before in
+    (pair-shape _ _ (s .pre .0 .fine), s .pre .0 .entries, s .pre .3)
 
 ask-requires : tie.Need-ask-requires
 ask-requires c κs =
@@ -36,8 +37,8 @@ ask-requires c κs =
       s .pre .2,
     )
 
-add-t21 : tie.Need-add-t21
-add-t21 c =
+add-t24 : tie.Need-add-t24
+add-t24 c =
     let closed = closed-at c in
     let s = start closed in
     let m = now (s .args .model) in
@@ -53,7 +54,7 @@ add-t21 c =
 
 returns : tie.Need-returns
 returns c =
-    let s = c .before .before .before .before .before .before .before .before .before .before in
+    let s = c .before .before .before .before .before .before .before .before .before .before .before .before .before in
     ends-blocked _ _ (s .pre .1) _ (c .before .stop .given .1)
 
 same-length : tie.Need-same-length
@@ -78,7 +79,7 @@ finish-spec =
     enum-told
     close-judged-requires
     ask-requires
-    add-t21
+    add-t24
     returns
     same-length
     same-length-2

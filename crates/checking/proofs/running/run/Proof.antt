@@ -21,7 +21,7 @@ use Rattle.checking.proofs.running.run.Statement.{statement}
 use Rattle.checking.proofs.running.run.Tie as tie
 
 abbrev start : tie.After-section → tie.Start
-start c = c .before .before .before .before .before .before
+start c = c .before .before .before .before .before .before .before .before .before
 
 abbrev section-of : tie.After-begin → tie.After-section
 section-of c = c .before .before .before .before
@@ -33,32 +33,33 @@ abbrev found-of : tie.After-finish → tie.After-search
 found-of c = c .before .before .before .before .before .before .before .before .before .before .before .before
 
 section-requires : tie.Need-section-requires
-section-requires c κs = pair-shape _ _ (c .before .before .before .before .before .pre .fine)
+section-requires c κs =
+    let s = c .before .before .before .before .before .before .before .before in pair-shape _ _ (s .pre .0 .fine)
 
 names-requires : tie.Need-names-requires
-names-requires c κs = pair-shape _ _ (start c .pre .fine)
+names-requires c κs = pair-shape _ _ (start c .pre .0 .fine)
 
 begin-requires : tie.Need-begin-requires
 begin-requires c κs =
     let n = c .before .before in
     let s = start (n .before) in (
-      subst Known (sym (n .before .section .ensures)) (initial-known _ (pair-shape _ _ (s .pre .fine))),
+      subst Known (sym (n .before .section .ensures)) (initial-known _ (pair-shape _ _ (s .pre .0 .fine))),
       n .names .ensures .1,
-      s .pre .room,
-      s .pre .names,
+      s .pre .0 .room,
+      s .pre .0 .names,
     )
 
 goal-of-requires : tie.Need-goal-of-requires
 goal-of-requires c κs =
     let s = start (section-of (c .before .before .before .before)) in
-    (pair-fits _ _ (s .pre .fine), omega (arith, pair-entries _ _ (s .pre .fine)))
+    (pair-fits _ _ (s .pre .0 .fine), omega (arith, pair-entries _ _ (s .pre .0 .fine)))
 
 formula-requires : tie.Need-formula-requires
 formula-requires c κs =
     let s = start (section-of (c .before .before .before .before .before)) in (
-      pair-shape _ _ (s .pre .fine),
+      pair-shape _ _ (s .pre .0 .fine),
       subst (λ g. g < length (meant.aims (modelOf (now (s .args .model))))) (sym (c .goal-of .ensures))
-          (pair-goal-known _ _ (s .pre .fine)),
+          (pair-goal-known _ _ (s .pre .0 .fine)),
     )
 
 -- the goal's codes
@@ -83,10 +84,10 @@ search-requires c κs =
     let initial = section-of b .section .ensures in
     let in-use = b .before .before .before .names .ensures .0 in (
       record {
-        fine = s .pre .fine;
-        room = omega (arith, facts .kept .as-long, s .pre .room);
-        entries = s .pre .entries;
-        names = omega (arith, names .kept .as-long, s .pre .names);
+        fine = s .pre .0 .fine;
+        room = omega (arith, facts .kept .as-long, s .pre .0 .room);
+        entries = s .pre .0 .entries;
+        names = omega (arith, names .kept .as-long, s .pre .0 .names);
       },
       λ i. record {
         facts = fun-ext (λ g. facts .set g ∙ ap (λ (l : List ℕ). listed (words l) g) initial) i;
@@ -94,6 +95,7 @@ search-requires c κs =
       },
       codes-of (c .before .before .before .before),
       keeps-zeros (aimed (now (s .args .model)) (now (s .args .trace))),
+      s .pre .1,
     )
 
 slice-aggregate-finish : tie.Need-slice-aggregate-finish
@@ -106,13 +108,14 @@ finish-requires c κs =
     let s = start (section-of b) in
     let led = found .search .ensures in (
       record {
-        fine = s .pre .fine;
-        room = omega (arith, led .kept .as-long, b .begin .ensures .0 .kept .as-long, s .pre .room);
-        entries = omega (arith, led .as-long, s .pre .entries);
-        names = omega (arith, led .names-kept .as-long, b .begin .ensures .1 .kept .as-long, s .pre .names);
+        fine = s .pre .0 .fine;
+        room = omega (arith, led .kept .as-long, b .begin .ensures .0 .kept .as-long, s .pre .0 .room);
+        entries = omega (arith, led .as-long, s .pre .0 .entries);
+        names = omega (arith, led .names-kept .as-long, b .begin .ensures .1 .kept .as-long, s .pre .0 .names);
       },
       steps-here _ _ led,
       codes-of (found .before .before .before .before .before),
+      s .pre .1,
     )
 
 count-requires : tie.Need-count-requires
@@ -124,16 +127,16 @@ verdict-requires c κs =
     let s = start (section-of (begun (found-of f))) in
     let ended = f .finish .ensures in
     let table = ended .left .rounds in (
-      s .pre .fine,
+      s .pre .0 .fine,
       record {
         within = ended .within;
         ending = ended .ending;
         step = ended .step;
         rounds = ended .rounds;
-        held-is = held-is _ _ (pair-shape _ _ (s .pre .fine)) _ (ended .left .facts) (c .before .count .ensures);
+        held-is = held-is _ _ (pair-shape _ _ (s .pre .0 .fine)) _ (ended .left .facts) (c .before .count .ensures);
       },
       record {
-        long = omega (arith, table .as-long, found-of f .search .ensures .as-long, s .pre .entries);
+        long = omega (arith, table .as-long, found-of f .search .ensures .as-long, s .pre .0 .entries);
         entries = table .entries;
       },
     )

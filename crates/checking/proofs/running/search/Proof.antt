@@ -2,8 +2,7 @@
 -- the conditions of a step's rule the first unmet one is among those still ahead (`Looking`).
 mod Places
 use Rattle.checking.specs.Running.{unmetIn}
-use Prim.Native.Nat.{ℕ, _+_, _-_, _*_, _/_, _≤_, _<_}
-use mathlib.Core.Path.{_≡_, refl, sym, ap, _∙_}
+use mathlib.Core.Path.{refl, sym, ap, _∙_}
 use mathlib.Core.List.{[]}
 use mathlib.Core.Option.{none, some}
 use native.Mathlib.Omega.{arith}
@@ -36,12 +35,12 @@ use Rattle.checking.proofs.running.search.Tie as tie
 
 entries-requires : tie.Need-entries-requires Inv-loop μ-loop Inv-search μ-search
 entries-requires c κs =
-    let s = c .before .before .before .before .before .before .before in
+    let s = c .before .before .before .before .before .before .before .before .before .before in
     pair-fits (now (s .args .model)) (now (s .args .trace)) (s .pre .0 .fine)
 
 sub-steps : tie.Need-sub-steps Inv-loop μ-loop Inv-search μ-search
 sub-steps c =
-    let s = c .before .before .before .before .before .before .before .before in
+    let s = c .before .before .before .before .before .before .before .before .before .before .before in
     omega (
       arith,
       ap length (c .entries .ensures),
@@ -50,14 +49,16 @@ sub-steps c =
 
 section-requires : tie.Need-section-requires Inv-loop μ-loop Inv-search μ-search
 section-requires c κs =
-    let s = c .before .before .before .before .before .before .before .before in
+    let s = c .before .before .before .before .before .before .before .before .before .before .before in
     pair-shape (now (s .args .model)) (now (s .args .trace)) (s .pre .0 .fine)
 
 search-holds : tie.Need-search-holds Inv-loop μ-loop Inv-search μ-search
-search-holds c = let s = c .before .before .before .before .before .before .before .before .before in on-start _ _ _ (s .pre .1) (s .pre .3)
+search-holds c =
+    let s = c .before .before .before .before .before .before .before .before .before .before .before .before in
+    on-start _ _ _ (s .pre .1) (s .pre .3)
 
 close-judged-requires : tie.Need-close-judged-requires Inv-loop μ-loop Inv-search μ-search
-close-judged-requires c κs = let s = c .before .before .before in (shape s, long s)
+close-judged-requires c κs = let s = c .before .before .before in (shape s, long s, start s .pre .4)
 
 add-rounds : tie.Need-add-rounds Inv-loop μ-loop Inv-search μ-search
 add-rounds c =
@@ -124,7 +125,10 @@ loop-again c =
 
 rule-list-requires-3 : tie.Need-rule-list-requires-3 Inv-loop μ-loop Inv-search μ-search
 unfolding listCount
-rule-list-requires-3 c κs = (cut-of (record-of (c .before .before .before .before .before .before .before .before)), lit< tt)
+rule-list-requires-3 c κs = (
+  cut-of (record-of (c .before .before .before .before .before .before .before .before)),
+  lit< tt,
+)
 
 advance-requires : tie.Need-advance-requires Inv-loop μ-loop Inv-search μ-search
 advance-requires c κs = table-long (c .before .before .before .before .before)
@@ -159,13 +163,15 @@ search-again c =
     let advanced = a .before .before .before in
     let done = advanced .before .before .before in
     let s = here l in
-    let keeps = keeps-next (model s) (trace s) (start s .pre .2) (on s .past) (on s .keeps) (advanced .advance .ensures) in
+    let keeps =
+    keeps-next (model s) (trace s) (start s .pre .2) (on s .past) (on s .keeps) (advanced .advance .ensures) in
     let none-left =
     looking-end (P l) (N l) (made l) (done .before .loop .inv)
     (rw (asks-length (P l) (N l) (made l))
     (omega (arith, done .before .before .count .ensures, done .loop-test .left))) in
     on-fired (model (here l)) (trace (here l)) (on (here l)) (closed k) refl (step-there k) (asked-is l none none-left)
-    (few-more k) (closure-shown (model s) (shape s) (closed k)) keeps (advanced .advance .ensures .kept .as-long) (P-is l)
+    (few-more k) (closure-shown (model s) (shape s) (closed k)) keeps (advanced .advance .ensures .kept .as-long)
+    (P-is l)
     (rule-A _ _ (list-is (record-of l) 2 (a .rule-list3 .ensures)) ∙ rule-is l (λ r. r .A)) (made-is l)
     (persistent-in _ (here l .before .section .ensures))
     (applied .apply .ensures .0) (applied .apply .ensures .1)

@@ -28,29 +28,31 @@ use Rattle.checking.proofs.Stepwise.{closure-shown, rounds-few, asked, 
 use Rattle.checking.proofs.running.search.Tie as tie
 
 abbrev pub Inv-loop : tie.InvT-loop
-Inv-loop model trace codes state table names kept entries steps persistent fired rounds rule p n made count i₀ i =
+Inv-loop model trace codes state table names kept index ends starts entries steps persistent fired rounds rule p
+    n made count i₀ i =
     Looking p n made (numbered table) (namesIn names) i
 
 abbrev pub μ-loop : tie.MeasureT-loop
-μ-loop model trace codes state table names kept entries steps persistent fired rounds rule p n made count i₀ i =
+μ-loop model trace codes state table names kept index ends starts entries steps persistent fired rounds rule p
+    n made count i₀ i =
     count - i
 
 abbrev pub Inv-search : tie.InvT-search
-Inv-search model trace codes state₀ table₀ names₀ kept₀ entries steps persistent fired₀ rounds₀ state table names kept
-    fired rounds =
+Inv-search model trace codes state₀ table₀ names₀ kept₀ index ends starts entries steps persistent fired₀ rounds₀
+    state table names kept fired rounds =
     On model trace (record { state = state₀; table = table₀; names = names₀ })
     (record { state = state; table = table; names = names }) kept₀ kept fired rounds
 
 abbrev pub μ-search : tie.MeasureT-search
-μ-search model trace codes state₀ table₀ names₀ kept₀ entries steps persistent fired₀ rounds₀ state table names kept
-    fired rounds =
+μ-search model trace codes state₀ table₀ names₀ kept₀ index ends starts entries steps persistent fired₀ rounds₀
+    state table names kept fired rounds =
     steps - fired
 
 -- ---- what is known before a step
 
 module _ (s : tie.At-search Inv-loop μ-loop Inv-search μ-search) where
   abbrev pub start : tie.Start Inv-loop μ-loop Inv-search μ-search
-  start = s .before .before .before .before .before .before .before .before .before .before
+  start = s .before .before .before .before .before .before .before .before .before .before .before .before .before
 
   abbrev pub model : List ℕ
   model = now (start .args .model)

@@ -1,0 +1,12 @@
+-- `closing::no_room` meets its contract.
+use mathlib.Core.Path.{refl}
+use Rattle.closing.specs.Closing.{noRoom}
+use Rattle.closing.proofs.no_room.Statement.{statement}
+use Rattle.closing.proofs.no_room.Tie as tie
+
+returns : tie.Need-returns
+unfolding noRoom
+returns c = refl
+
+pub no-room-spec : {M : Type 1} → statement M
+no-room-spec = tie.close (tie.spec returns)

@@ -6,7 +6,7 @@
 int main(void)
 {
     static uint8_t state[512], part[4], names[128];
-    static uint16_t table[4096];
+    static uint16_t table[4096], index[3];
     static const uint8_t file[5] = {1, 0, 0, 0, 0};
     /* 5 facts; clauses 0, 1 and 2 from nothing; two rules and one attack state without conditions */
     static const uint8_t model[] = {1, 0, 0, 0, 2, 0, 5, 0, 0, 0, 0, 0, 0, 0, 12, 0, 2, 0, 0, 0, 2, 0, 1, 0, 2, 0, 2,
@@ -14,11 +14,16 @@ int main(void)
     /* one fact; one attack state without conditions, and fact 0 twice as a formula */
     static const uint8_t past[] = {4, 0, 0, 0, 2, 0, 1, 0, 0, 0, 0, 0, 0, 0, 0, 0, 0, 0, 0, 0, 0, 0, 0, 0, 0, 0, 0,
         0, 0, 0, 6, 0, 4, 0, 0, 0, 0, 0, 0, 0, 8, 0, 2, 0, 0, 0, 2, 0, 0};
+    /* 2 facts; clause 1 from 0, which is one body place; one attack state without conditions */
+    static const uint8_t placed[] = {1, 0, 0, 0, 2, 0, 2, 0, 0, 0, 0, 0, 0, 0, 6, 0, 4, 0, 1, 0, 0, 0, 0, 0, 0, 0, 0, 0,
+        6, 0, 4, 0, 0, 0, 0};
+    static const uint8_t trace[] = {1, 0, 0, 0, 2, 0, 0};
     uint64_t out[10];
     memset(state, JUNK, sizeof state);
     memset(part, JUNK, sizeof part);
     memset(table, JUNK, sizeof table);
     memset(names, JUNK, sizeof names);
+    memset(index, JUNK, sizeof index);
     memset(out, JUNK, sizeof out);
     /* No room for the verdict: nothing is changed, `out` included. */
     expect("no out",
@@ -32,6 +37,35 @@ int main(void)
     expect("no state to close", cantivorex_safe_close(file, 5, NULL, 512, table, 4096, out, 10), CANTIVOREX_ROOM);
     expect("no table to close", cantivorex_safe_close(file, 5, state, 512, NULL, 4096, out, 10), CANTIVOREX_ROOM);
     expect("all null to close", cantivorex_safe_close(NULL, 5, NULL, 512, NULL, 4096, NULL, 10), CANTIVOREX_ROOM);
+    expect("no out with an index",
+        cantivorex_safe_check_indexed(
+            placed, sizeof placed, trace, 7, state, 512, table, 4096, names, 128, index, 3, NULL, 10),
+        CANTIVOREX_ROOM);
+    expect("a short out with an index",
+        cantivorex_safe_check_indexed(
+            placed, sizeof placed, trace, 7, state, 512, table, 4096, names, 128, index, 3, out, 9),
+        CANTIVOREX_ROOM);
+    expect("all null with an index",
+        cantivorex_safe_check_indexed(NULL, 9, NULL, 9, NULL, 512, NULL, 4096, NULL, 128, NULL, 3, NULL, 10),
+        CANTIVOREX_ROOM);
+    expect("no out to close by an index",
+        cantivorex_safe_close_indexed(file, 5, state, 512, table, 4096, index, 3, NULL, 2), CANTIVOREX_ROOM);
+    expect("a short out to close by an index",
+        cantivorex_safe_close_indexed(file, 5, state, 512, table, 4096, index, 3, out, 1), CANTIVOREX_ROOM);
+    expect("no model to close by an index",
+        cantivorex_safe_close_indexed(NULL, 5, state, 512, table, 4096, index, 3, out, 10), CANTIVOREX_VERSION);
+    expect("no state to close by an index",
+        cantivorex_safe_close_indexed(file, 5, NULL, 512, table, 4096, index, 3, out, 10), CANTIVOREX_ROOM);
+    expect("no table to close by an index",
+        cantivorex_safe_close_indexed(file, 5, state, 512, NULL, 4096, index, 3, out, 10), CANTIVOREX_ROOM);
+    expect("no index to close by, before the state's facts",
+        cantivorex_safe_close_indexed(placed, sizeof placed, state, 512, table, 4096, NULL, 3, out, 10),
+        CANTIVOREX_ROOM);
+    expect("the state's facts",
+        cantivorex_safe_close_indexed(placed, sizeof placed, state, 512, table, 4096, index, 1, out, 10),
+        CANTIVOREX_FACT);
+    expect("all null to close by an index",
+        cantivorex_safe_close_indexed(NULL, 5, NULL, 512, NULL, 4096, NULL, 3, NULL, 10), CANTIVOREX_ROOM);
     expect("no out to count", cantivorex_safe_count(model, sizeof model, NULL, 4), CANTIVOREX_ROOM);
     expect("a short out to count", cantivorex_safe_count(model, sizeof model, out, 3), CANTIVOREX_ROOM);
     expect("all null to count", cantivorex_safe_count(NULL, 5, NULL, 4), CANTIVOREX_ROOM);
@@ -42,6 +76,7 @@ int main(void)
     expect("a place beyond", cantivorex_safe_part(file, 5, file, 5, 1, SIZE_MAX, SIZE_MAX, part, 4), 0);
     expect("nothing written", all(state, sizeof state, JUNK) && all(table, sizeof table, JUNK), 1);
     expect("no name written", all(names, sizeof names, JUNK), 1);
+    expect("no place written", all(index, sizeof index, JUNK), 1);
     expect("nothing written out", all(out, sizeof out, JUNK) && all(part, sizeof part, JUNK), 1);
     /* A part is copied as far as there is room. */
     expect("no room for a part", cantivorex_safe_part(file, 5, NULL, 0, 0, 0, SIZE_MAX, NULL, 4), 5);
@@ -75,7 +110,34 @@ int main(void)
     expect("no trace",
         cantivorex_safe_check(file, 5, NULL, 5, state, 512, table, 4096, names, 128, out, 10), CANTIVOREX_VERSION);
     expect("no trace's mark", out[CANTIVOREX_OUT_MARK], 1);
+    expect("no index",
+        cantivorex_safe_check_indexed(
+            placed, sizeof placed, trace, 7, state, 512, table, 4096, names, 128, NULL, 3, out, 10),
+        CANTIVOREX_ROOM);
+    expect("no index, written", out[CANTIVOREX_OUT_NUMBER], CANTIVOREX_ROOM);
+    expect("no index's mark", out[CANTIVOREX_OUT_MARK], 0);
+    expect("no index's part", out[CANTIVOREX_OUT_SIZE], 0);
+    expect("no index and no goal in the trace",
+        cantivorex_safe_check_indexed(
+            placed, sizeof placed, file, 5, state, 512, table, 4096, names, 128, NULL, 3, out, 10),
+        CANTIVOREX_ROOM);
+    expect("no index and no trace",
+        cantivorex_safe_check_indexed(
+            placed, sizeof placed, NULL, 5, state, 512, table, 4096, names, 128, NULL, 3, out, 10),
+        CANTIVOREX_VERSION);
     expect("nothing changed", all(state, sizeof state, JUNK) && all(table, sizeof table, JUNK), 1);
     expect("no name changed", all(names, sizeof names, JUNK), 1);
+    /* A model without a body place needs no index. */
+    expect("no index needed",
+        cantivorex_safe_check_indexed(
+            model, sizeof model, trace, 7, state, 512, table, 4096, names, 128, NULL, 3, out, 10),
+        CANTIVOREX_ATTACK);
+    expect("its rounds", out[CANTIVOREX_OUT_ROUNDS], 1);
+    memset(out, JUNK, sizeof out);
+    expect("no index needed to close",
+        cantivorex_safe_close_indexed(model, sizeof model, state, 512, table, 4096, NULL, 3, out, 10), 0);
+    expect("its rounds", out[CANTIVOREX_CLOSED_ROUNDS], 1);
+    expect("its crossings", out[CANTIVOREX_CLOSED_CROSSINGS], 0);
+    expect("nothing after them", all(out + CANTIVOREX_CLOSED_ENTRIES, 8 * sizeof *out, JUNK), 1);
     return summary();
 }

@@ -1,5 +1,6 @@
-/* One state buffer and one for names, used again and again and longer than they have to be: a step that does not fire
-   at the end of a trace leaves the state before it, and what lies beyond the bytes of a state stays. */
+/* One state buffer, one for names and one for an index, used again and again and longer than they have to be: a step
+   that does not fire at the end of a trace leaves the state before it, and what lies beyond the bytes of a state stays.
+   With an index and without one. */
 #include "../include/cantivorex.h"
 #include "expect.h"
 #include <string.h>
@@ -31,18 +32,29 @@ static const uint8_t minting[] = {
 };
 
 static uint8_t state[700], names[200];
-static uint16_t table[5000];
+static uint16_t table[5000], places[9];
+
+static void check(
+    const uint8_t *file, size_t len, const uint8_t *trace, size_t trace_len, int indexed, uint64_t *out)
+{
+    if (indexed)
+        cantivorex_safe_check_indexed(file, len, trace, trace_len, state, sizeof state, table, 5000, names,
+            sizeof names, places, 9, out, CANTIVOREX_OUT_ENTRIES);
+    else
+        cantivorex_safe_check(file, len, trace, trace_len, state, sizeof state, table, 5000, names, sizeof names, out,
+            CANTIVOREX_OUT_ENTRIES);
+}
 
 /* Rule 0 and then another: blocked at step 1, by a fact of a kind. */
-static void blocked_by(uint8_t rule, uint64_t fact, uint64_t kind, uint64_t round)
+static void blocked_by(uint8_t rule, uint64_t fact, uint64_t kind, uint64_t round, int indexed)
 {
     const uint8_t trace[] = {1, 0, 0, 0, 6, 0, 0, 0, 0, 0, rule};
     uint64_t out[CANTIVOREX_OUT_ENTRIES];
     uint8_t before[CANTIVOREX_STATE_BYTES] = {0};
     before[0] = 1 << 3; /* fact 3 */
     before[1] = 1 << 1; /* fact 9 */
-    cantivorex_safe_check(model, sizeof model, trace, sizeof trace, state, sizeof state, table, 5000, names,
-        sizeof names, out, CANTIVOREX_OUT_ENTRIES);
+    memset(places, JUNK, sizeof places);
+    check(model, sizeof model, trace, sizeof trace, indexed, out);
     expect("the last step is blocked", out[CANTIVOREX_OUT_NUMBER], CANTIVOREX_BLOCKED);
     expect("its number", out[CANTIVOREX_OUT_STEP], 1);
     expect("by this fact", out[CANTIVOREX_OUT_FACT], fact);
@@ -57,10 +69,12 @@ static void blocked_by(uint8_t rule, uint64_t fact, uint64_t kind, uint64_t roun
     expect("the entries beyond 4,096 stay", all(table + 4096, sizeof table - 2 * 4096, JUNK), 1);
     expect("version 1 uses no name", all(names, 128, 0), 1);
     expect("the bytes beyond the names stay", all(names + 128, sizeof names - 128, JUNK), 1);
+    expect("the clause of the one body place", places[0], indexed ? 0 : JUNK << 8 | JUNK);
+    expect("the entries beyond it stay", all(places + 1, sizeof places - 2, JUNK), 1);
 }
 
 /* Rule 0 and then another, which makes a name that is used. What an earlier check used says nothing. */
-static void used_by(uint8_t rule, uint64_t name)
+static void used_by(uint8_t rule, uint64_t name, int indexed)
 {
     const uint8_t trace[] = {1, 0, 0, 0, 6, 0, 0, 0, 0, 0, rule};
     uint64_t out[CANTIVOREX_OUT_ENTRIES];
@@ -68,8 +82,8 @@ static void used_by(uint8_t rule, uint64_t name)
     before[0] = 1 << 3 | 1 << 5; /* names 3 and 5 */
     before[1] = 1 << 0;          /* name 8 */
     before[127] = 1 << 7;        /* name 1,023 */
-    cantivorex_safe_check(minting, sizeof minting, trace, sizeof trace, state, sizeof state, table, 5000, names,
-        sizeof names, out, CANTIVOREX_OUT_ENTRIES);
+    memset(places, JUNK, sizeof places);
+    check(minting, sizeof minting, trace, sizeof trace, indexed, out);
     expect("the last step's name is used", out[CANTIVOREX_OUT_NUMBER], CANTIVOREX_USED);
     expect("the step's number", out[CANTIVOREX_OUT_STEP], 1);
     expect("this name", out[CANTIVOREX_OUT_FACT], name);
@@ -81,6 +95,7 @@ static void used_by(uint8_t rule, uint64_t name)
     expect("no fact in the state", all(state, 512, 0), 1);
     expect("the names before the step", memcmp(names, before, sizeof before), 0);
     expect("the bytes beyond the names stay", all(names + 128, sizeof names - 128, JUNK), 1);
+    expect("no body place", all(places, sizeof places, JUNK), 1);
 }
 
 int main(void)
@@ -88,9 +103,11 @@ int main(void)
     memset(state, JUNK, sizeof state);
     memset(table, JUNK, sizeof table);
     memset(names, JUNK, sizeof names);
-    blocked_by(1, 15, CANTIVOREX_KIND_POSITIVE, CANTIVOREX_NONE);
-    used_by(0, 3);
-    used_by(1, 5);
-    blocked_by(2, 2, CANTIVOREX_KIND_NEGATIVE, 1);
+    for (int indexed = 0; indexed < 2; indexed++) {
+        blocked_by(1, 15, CANTIVOREX_KIND_POSITIVE, CANTIVOREX_NONE, indexed);
+        used_by(0, 3, !indexed);
+        used_by(1, 5, indexed);
+        blocked_by(2, 2, CANTIVOREX_KIND_NEGATIVE, 1, indexed);
+    }
     return summary();
 }

@@ -14,13 +14,13 @@ static size_t load(const char *path, uint8_t *bytes, size_t room)
 int main(int argc, char **argv)
 {
     static uint8_t model[65537], trace[4097], state[512], names[128];
-    static uint16_t table[4096];
+    static uint16_t table[4096], index[CANTIVOREX_INDEX_ENTRIES];
     uint64_t out[CANTIVOREX_OUT_ENTRIES];
     if (argc != 3)
         return 2;
     size_t models = load(argv[1], model, sizeof model), traces = load(argv[2], trace, sizeof trace);
-    cantivorex_safe_check(model, models, trace, traces, state, sizeof state, table, 4096, names, sizeof names, out,
-        CANTIVOREX_OUT_ENTRIES);
+    cantivorex_safe_check_indexed(model, models, trace, traces, state, sizeof state, table, 4096, names, sizeof names,
+        index, CANTIVOREX_INDEX_ENTRIES, out, CANTIVOREX_OUT_ENTRIES);
     for (int i = 0; i < CANTIVOREX_OUT_ENTRIES; i++)
         printf("%s%llu", i ? " " : "", (unsigned long long)out[i]);
     printf("\n");

@@ -7,8 +7,8 @@
 #include <string.h>
 #include <ucontext.h>
 
-/* The most bytes that each may take: what was measured, and a tenth. */
-enum { CHECK_LIMIT = 757, CLOSE_LIMIT = 477, COUNT_LIMIT = 442, PART_LIMIT = 44 };
+/* The most bytes that each may take: what was measured, and a tenth; those with an index may take 32 KiB. */
+enum { CHECK_LIMIT = 1082, CLOSE_LIMIT = 477, COUNT_LIMIT = 442, PART_LIMIT = 44, INDEXED_LIMIT = 32768 };
 
 enum { STACK = 1 << 20, FACTS = 4096, STORED = 32, HEADS = 64, NEVER = FACTS - 1 };
 
@@ -22,7 +22,7 @@ struct file {
 
 static struct file model, trace;
 static uint8_t state[CANTIVOREX_STATE_BYTES], names[CANTIVOREX_NAMES_BYTES], part[65537];
-static uint16_t table[CANTIVOREX_TABLE_ENTRIES];
+static uint16_t table[CANTIVOREX_TABLE_ENTRIES], places[CANTIVOREX_INDEX_ENTRIES];
 static uint64_t out[CANTIVOREX_OUT_ENTRIES];
 
 /* What a pair of files is made of, and what the check and the closing answer; the count answers as the closing. A model
@@ -222,7 +222,7 @@ static const struct pair pairs[] = {
 };
 
 static uint8_t answer;
-static size_t room = sizeof state, figures = CANTIVOREX_HAS_ENTRIES;
+static size_t room = sizeof state, figures = CANTIVOREX_HAS_ENTRIES, entries = CANTIVOREX_INDEX_ENTRIES;
 
 static void nothing(void)
 {
@@ -238,6 +238,18 @@ static void check_it(void)
 {
     answer = cantivorex_check(model.bytes, model.len, trace.bytes, trace.len, state, room, table,
         CANTIVOREX_TABLE_ENTRIES, names, sizeof names, out, CANTIVOREX_OUT_ENTRIES);
+}
+
+static void close_it_indexed(void)
+{
+    answer = cantivorex_close_indexed(model.bytes, model.len, state, room, table, CANTIVOREX_TABLE_ENTRIES, places,
+        entries, out, CANTIVOREX_OUT_ENTRIES);
+}
+
+static void check_it_indexed(void)
+{
+    answer = cantivorex_check_indexed(model.bytes, model.len, trace.bytes, trace.len, state, room, table,
+        CANTIVOREX_TABLE_ENTRIES, names, sizeof names, places, entries, out, CANTIVOREX_OUT_ENTRIES);
 }
 
 static void count_it(void)
@@ -271,7 +283,7 @@ static size_t depth(void (*run)(void))
 }
 
 /* The deepest of each function so far. */
-static size_t check_most, close_most, count_most, part_most;
+static size_t check_most, close_most, count_most, part_most, check_indexed_most, close_indexed_most;
 
 static void keep_most(size_t *most, size_t taken)
 {
@@ -279,7 +291,7 @@ static void keep_most(size_t *most, size_t taken)
         *most = taken;
 }
 
-/* One row: all four functions on the files as they are. */
+/* One row: all six functions on the files as they are. */
 static void measure(const char *name, uint64_t check, uint64_t close)
 {
     size_t empty = depth(nothing);
@@ -287,17 +299,23 @@ static void measure(const char *name, uint64_t check, uint64_t close)
     memset(state, 0xFF, STORED / 8);
     size_t closing = depth(close_it) - empty;
     expect("closing's answer", answer, close);
+    size_t closing_indexed = depth(close_it_indexed) - empty;
+    expect("closing's answer by an index", answer, close);
     size_t counting = depth(count_it) - empty;
     expect("the count's answer", answer, close);
     size_t checking = depth(check_it) - empty;
     expect("the check's answer", answer, check);
     size_t placing = depth(part_of_it) - empty;
-    printf("%-34s %2llu %8zu %8zu %8zu %8zu\n", name, (unsigned long long)check, checking, closing, counting,
-        placing);
+    size_t checking_indexed = depth(check_it_indexed) - empty;
+    expect("the check's answer by an index", answer, check);
+    printf("%-34s %2llu %7zu %7zu %7zu %7zu %7zu %7zu\n", name, (unsigned long long)check, checking, closing, counting,
+        placing, checking_indexed, closing_indexed);
     keep_most(&check_most, checking);
     keep_most(&close_most, closing);
     keep_most(&count_most, counting);
     keep_most(&part_most, placing);
+    keep_most(&check_indexed_most, checking_indexed);
+    keep_most(&close_indexed_most, closing_indexed);
 }
 
 static void limit(const char *name, size_t most, size_t allowed)
@@ -308,7 +326,8 @@ static void limit(const char *name, size_t most, size_t allowed)
 
 int main(void)
 {
-    printf("%-34s %2s %8s %8s %8s %8s\n", "bytes of stack", "", "check", "close", "count", "part");
+    printf("%-34s %2s %7s %7s %7s %7s %15s\n", "bytes of stack", "", "check", "close", "count", "part",
+        "both by an index");
     for (size_t i = 0; i < sizeof pairs / sizeof *pairs; i++) {
         write_model(&pairs[i]);
         write_trace(&pairs[i]);
@@ -316,6 +335,17 @@ int main(void)
             pairs[i].spoil();
         measure(pairs[i].name, pairs[i].check, pairs[i].close);
     }
+    /* Too short an index, for the pair that has the most in it. */
+    const struct pair *large = &pairs[sizeof pairs / sizeof *pairs - 4];
+    write_model(large);
+    write_trace(large);
+    entries = 16 * large->clauses - 1;
+    size_t empty = depth(nothing);
+    keep_most(&check_indexed_most, depth(check_it_indexed) - empty);
+    expect("a check with too short an index", answer, CANTIVOREX_ROOM);
+    keep_most(&close_indexed_most, depth(close_it_indexed) - empty);
+    expect("closing by too short an index", answer, CANTIVOREX_ROOM);
+    entries = CANTIVOREX_INDEX_ENTRIES;
     room = sizeof state - 1;
     figures = CANTIVOREX_HAS_ENTRIES - 1;
     measure("511 bytes for a state, 3 figures", CANTIVOREX_ROOM, CANTIVOREX_ROOM);
@@ -323,5 +353,7 @@ int main(void)
     limit("cantivorex_close", close_most, CLOSE_LIMIT);
     limit("cantivorex_count", count_most, COUNT_LIMIT);
     limit("cantivorex_part", part_most, PART_LIMIT);
+    limit("cantivorex_check_indexed", check_indexed_most, INDEXED_LIMIT);
+    limit("cantivorex_close_indexed", close_indexed_most, INDEXED_LIMIT);
     return summary();
 }

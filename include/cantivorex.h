@@ -2,11 +2,18 @@
  *
  * Everything is lent: the library keeps no pointer, frees nothing and allocates nothing, and each call stands by
  * itself, so that calls on different buffers may run at the same time. A file is any bytes at all; nothing in one can
- * make a call crash or loop. What a call may write (state, table, names, out) must overlap no other area of the same
- * call.
+ * make a call crash or loop. What a call may write (state, table, names, index, out) must overlap no other area of
+ * the same call.
  *
  * The functions at the bottom, `cantivorex_safe_..`, are the ones to call: they take a null pointer as an area of
- * length 0. The four above them are what the library has, each area as a pointer that is not null and a length.
+ * length 0. The six above them are what the library has, each area as a pointer that is not null and a length.
+ *
+ * Check and closing have two forms. The one without an index is for a small board: it reads all clauses again in each
+ * round. The one that is lent an index is for all others: it looks at each body fact of each clause once for a state,
+ * so that a long chain of clauses takes no longer than the same clauses side by side. Both give the same answers.
+ *
+ * Stack: at most 1,082 bytes for cantivorex_check, 477 for cantivorex_close, 442 for cantivorex_count and 44 for
+ * cantivorex_part; 32,768 for the two forms with an index. boundary/stack.c measures it.
  */
 #ifndef CANTIVOREX_H
 #define CANTIVOREX_H
@@ -21,7 +28,7 @@ extern "C" {
 /* The verdict's numbers. */
 enum {
     CANTIVOREX_ATTACK = 0,    /* accepted */
-    CANTIVOREX_ROOM = 1,      /* a buffer is too short; state, table and names stay */
+    CANTIVOREX_ROOM = 1,      /* a buffer is too short; state, table, names and index stay */
     CANTIVOREX_LONG = 2,      /* a file is over its size: 65,536 bytes for a model, 4,096 for a trace */
     CANTIVOREX_VERSION = 3,   /* a file is empty, or its first byte is no version: 1 to 4 of a model, 1 of a trace */
     CANTIVOREX_SHAPE = 4,     /* a length or count does not fit, something is too short, bytes are left over */
@@ -42,8 +49,10 @@ enum {
     CANTIVOREX_STATE_BYTES = 512,
     CANTIVOREX_TABLE_ENTRIES = 4096,
     CANTIVOREX_NAMES_BYTES = 128,
-    CANTIVOREX_OUT_ENTRIES = 10, /* of a check; closing needs one */
-    CANTIVOREX_HAS_ENTRIES = 4   /* of a count */
+    CANTIVOREX_INDEX_ENTRIES = 32768, /* enough for every model: an index needs an entry for each of its body places */
+    CANTIVOREX_OUT_ENTRIES = 10,      /* of a check; closing needs one */
+    CANTIVOREX_CLOSED_ENTRIES = 2,    /* of closing with an index */
+    CANTIVOREX_HAS_ENTRIES = 4        /* of a count */
 };
 
 /* Where a verdict's values stand in `out`. */
@@ -58,6 +67,12 @@ enum {
     CANTIVOREX_OUT_MARK = 7,   /* whose bytes are at fault: 0 the model's, 1 the trace's */
     CANTIVOREX_OUT_START = 8,  /* where they start */
     CANTIVOREX_OUT_SIZE = 9    /* how many they are */
+};
+
+/* Where the answers of closing stand in `out`; without an index it gives the first alone. */
+enum {
+    CANTIVOREX_CLOSED_ROUNDS = 0,
+    CANTIVOREX_CLOSED_CROSSINGS = 1 /* the body places whose fact is in the closure */
 };
 
 /* Where a model's figures stand in `out`: the same four for all versions. */
@@ -91,10 +106,24 @@ uint8_t cantivorex_check(const uint8_t *model, size_t model_len, const uint8_t *
     uint64_t *out, size_t out_len);
 
 /* Closing by itself, from the state lent: answers 0 and writes the number of rounds to out[0] and the round numbers to
- * the first 4,096 entries of `table`. Otherwise it answers 1 to 7, 12 or 17 for what it is lent, or 6 for a state with a
- * fact of F or more, and changes nothing. It looks at no names. With an `out` of no entries the answer is 1. */
+ * the first 4,096 entries of `table`. Otherwise it answers 1 to 7, 12 or 17 for what it is lent, or 6 for a state with
+ * a fact of F or more, and changes nothing. It looks at no names. With an `out` of no entries the answer is 1. */
 uint8_t cantivorex_close(const uint8_t *model, size_t model_len, const uint8_t *state, size_t state_len,
     uint16_t *table, size_t table_len, uint64_t *out, size_t out_len);
+
+/* The same two with an index, which needs an entry for each body place of the model, that is for each body fact of each
+ * clause. With fewer the answer is 1, right after the model's own numbers: after 2 and 3 of both files, and before 4, 5
+ * and 9 of a trace and before closing's 6 for the state; nothing is changed then but a check's `out`, whose bytes at
+ * fault are the empty part at the model's start. Wherever the table is written, so are as many of the first entries of
+ * `index` as the model has body places: the number of each one's clause, by fact and then by clause. The others stay.
+ * What the index held before says nothing. Closing writes the crossings to out[1] besides; with an `out` of fewer than
+ * 2 entries it answers 1 and changes nothing. */
+uint8_t cantivorex_check_indexed(const uint8_t *model, size_t model_len, const uint8_t *trace, size_t trace_len,
+    uint8_t *state, size_t state_len, uint16_t *table, size_t table_len, uint8_t *names, size_t names_len,
+    uint16_t *index, size_t index_len, uint64_t *out, size_t out_len);
+
+uint8_t cantivorex_close_indexed(const uint8_t *model, size_t model_len, const uint8_t *state, size_t state_len,
+    uint16_t *table, size_t table_len, uint16_t *index, size_t index_len, uint64_t *out, size_t out_len);
 
 /* What a model has: answers 0 and writes how many facts, clauses, rules and goals to the front of `out`. Otherwise it
  * answers 2 to 7, 12 or 17 for the model and changes nothing. With an `out` of fewer than 4 entries the answer is 1. */
@@ -106,7 +135,7 @@ uint8_t cantivorex_count(const uint8_t *model, size_t model_len, uint64_t *out, 
 size_t cantivorex_part(const uint8_t *model, size_t model_len, const uint8_t *trace, size_t trace_len, uint8_t mark,
     size_t start, size_t size, uint8_t *out, size_t out_len);
 
-/* The same four, with a null pointer as an area of length 0: a null file is an empty one (VERSION), a null buffer one
+/* The same six, with a null pointer as an area of length 0: a null file is an empty one (VERSION), a null buffer one
  * without room (ROOM). */
 static inline uint8_t cantivorex_safe_check(const uint8_t *model, size_t model_len, const uint8_t *trace,
     size_t trace_len, uint8_t *state, size_t state_len, uint16_t *table, size_t table_len, uint8_t *names,
@@ -126,6 +155,29 @@ static inline uint8_t cantivorex_safe_close(const uint8_t *model, size_t model_l
     return cantivorex_close(model ? model : (const uint8_t *)&nothing, model ? model_len : 0,
         state ? state : (const uint8_t *)&nothing, state ? state_len : 0, table ? table : (uint16_t *)&nothing,
         table ? table_len : 0, out ? out : &nothing, out ? out_len : 0);
+}
+
+static inline uint8_t cantivorex_safe_check_indexed(const uint8_t *model, size_t model_len, const uint8_t *trace,
+    size_t trace_len, uint8_t *state, size_t state_len, uint16_t *table, size_t table_len, uint8_t *names,
+    size_t names_len, uint16_t *index, size_t index_len, uint64_t *out, size_t out_len)
+{
+    uint64_t nothing = 0;
+    return cantivorex_check_indexed(model ? model : (const uint8_t *)&nothing, model ? model_len : 0,
+        trace ? trace : (const uint8_t *)&nothing, trace ? trace_len : 0, state ? state : (uint8_t *)&nothing,
+        state ? state_len : 0, table ? table : (uint16_t *)&nothing, table ? table_len : 0,
+        names ? names : (uint8_t *)&nothing, names ? names_len : 0, index ? index : (uint16_t *)&nothing,
+        index ? index_len : 0, out ? out : &nothing, out ? out_len : 0);
+}
+
+static inline uint8_t cantivorex_safe_close_indexed(const uint8_t *model, size_t model_len, const uint8_t *state,
+    size_t state_len, uint16_t *table, size_t table_len, uint16_t *index, size_t index_len, uint64_t *out,
+    size_t out_len)
+{
+    uint64_t nothing = 0;
+    return cantivorex_close_indexed(model ? model : (const uint8_t *)&nothing, model ? model_len : 0,
+        state ? state : (const uint8_t *)&nothing, state ? state_len : 0, table ? table : (uint16_t *)&nothing,
+        table ? table_len : 0, index ? index : (uint16_t *)&nothing, index ? index_len : 0, out ? out : &nothing,
+        out ? out_len : 0);
 }
 
 static inline uint8_t cantivorex_safe_count(const uint8_t *model, size_t model_len, uint64_t *out, size_t out_len)

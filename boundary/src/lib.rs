@@ -5,6 +5,9 @@ pub const STATE_BYTES: usize = 512;
 pub const TABLE_ENTRIES: usize = 4_096;
 pub const NAMES_BYTES: usize = 128;
 
+/// Enough for the index of every model; it needs an entry for each body place.
+pub const INDEX_ENTRIES: usize = 32_768;
+
 /// How many values a verdict has.
 pub const VALUES: usize = 10;
 
@@ -59,6 +62,34 @@ extern "C" {
         state_len: usize,
         table: *mut u16,
         table_len: usize,
+        out: *mut u64,
+        out_len: usize,
+    ) -> u8;
+    fn cantivorex_check_indexed(
+        model: *const u8,
+        model_len: usize,
+        trace: *const u8,
+        trace_len: usize,
+        state: *mut u8,
+        state_len: usize,
+        table: *mut u16,
+        table_len: usize,
+        names: *mut u8,
+        names_len: usize,
+        index: *mut u16,
+        index_len: usize,
+        out: *mut u64,
+        out_len: usize,
+    ) -> u8;
+    fn cantivorex_close_indexed(
+        model: *const u8,
+        model_len: usize,
+        state: *const u8,
+        state_len: usize,
+        table: *mut u16,
+        table_len: usize,
+        index: *mut u16,
+        index_len: usize,
         out: *mut u64,
         out_len: usize,
     ) -> u8;
@@ -182,6 +213,122 @@ pub fn close_into(model: &[u8], state: &[u8], table: &mut [u16], out: &mut [u64]
             state.len(),
             table.as_mut_ptr(),
             table.len(),
+            out.as_mut_ptr(),
+            out.len(),
+        )
+    }
+}
+
+/// The verdict as `check` gives it, by an index lent: long chains of clauses take no longer than short ones. ROOM
+/// where the index has fewer entries than the model has body places.
+pub fn check_indexed(
+    model: &[u8],
+    trace: &[u8],
+    state: &mut [u8],
+    table: &mut [u16],
+    names: &mut [u8],
+    index: &mut [u16],
+) -> Verdict {
+    let mut out = [0; VALUES];
+    check_indexed_into(model, trace, state, table, names, index, &mut out);
+    Verdict::of(out)
+}
+
+/// A model of fewer bytes is checked sooner without an index: what is saved in closing is less than it takes to build.
+pub const SMALL_MODEL: usize = 512;
+
+/// The check in the form that is the sooner done for a model of this size. Both have the same verdict and leave the
+/// same in state, table and names; the index stays where it isn't needed.
+pub fn check_by_size(
+    model: &[u8],
+    trace: &[u8],
+    state: &mut [u8],
+    table: &mut [u16],
+    names: &mut [u8],
+    index: &mut [u16],
+) -> Verdict {
+    if model.len() < SMALL_MODEL {
+        check(model, trace, state, table, names)
+    } else {
+        check_indexed(model, trace, state, table, names, index)
+    }
+}
+
+/// The same as the library has it.
+pub fn check_indexed_into(
+    model: &[u8],
+    trace: &[u8],
+    state: &mut [u8],
+    table: &mut [u16],
+    names: &mut [u8],
+    index: &mut [u16],
+    out: &mut [u64],
+) -> u8 {
+    unsafe {
+        cantivorex_check_indexed(
+            model.as_ptr(),
+            model.len(),
+            trace.as_ptr(),
+            trace.len(),
+            state.as_mut_ptr(),
+            state.len(),
+            table.as_mut_ptr(),
+            table.len(),
+            names.as_mut_ptr(),
+            names.len(),
+            index.as_mut_ptr(),
+            index.len(),
+            out.as_mut_ptr(),
+            out.len(),
+        )
+    }
+}
+
+/// What closing by an index answers: the number of rounds, and the body places whose fact is in the closure.
+#[derive(Clone, Copy, Debug, PartialEq, Eq)]
+pub struct Closed {
+    pub rounds: usize,
+    pub crossings: usize,
+}
+
+/// How many values that is.
+pub const CLOSED: usize = 2;
+
+/// Closing by an index lent, or the refusal's number with nothing changed.
+pub fn close_indexed(
+    model: &[u8],
+    state: &[u8],
+    table: &mut [u16],
+    index: &mut [u16],
+) -> Result<Closed, u8> {
+    let mut out = [0; CLOSED];
+    match close_indexed_into(model, state, table, index, &mut out) {
+        0 => {
+            let [rounds, crossings] = out.map(|n| n as usize);
+            Ok(Closed { rounds, crossings })
+        }
+        number => Err(number),
+    }
+}
+
+/// The same as the library has it: 0 and both in the first entries of `out`, or the refusal's number.
+pub fn close_indexed_into(
+    model: &[u8],
+    state: &[u8],
+    table: &mut [u16],
+    index: &mut [u16],
+    out: &mut [u64],
+) -> u8 {
+    unsafe {
+        cantivorex_close_indexed(
+            model.as_ptr(),
+            model.len(),
+            state.as_ptr(),
+            state.len(),
+            table.as_mut_ptr(),
+            table.len(),
+            index.as_mut_ptr(),
+            index.len(),
             out.as_mut_ptr(),
             out.len(),
         )

@@ -3,13 +3,19 @@
 
 use crate::layout;
 pub use library::Counts;
-use library::{Verdict, NAMES_BYTES, NONE, STATE_BYTES, TABLE_ENTRIES};
+use library::{Verdict, INDEX_ENTRIES, NAMES_BYTES, NONE, STATE_BYTES, TABLE_ENTRIES};
+use std::cell::RefCell;
 
 /// The refusal of a trace that has no fault in its bytes.
 const NAME: u8 = 9;
 
 /// The least model: no fact, no clause, no rule, no attack state.
 const LEAST: [u8; 23] = [1, 0, 0, 0, 2, 0, 0, 0, 0, 0, 0, 0, 0, 0, 0, 0, 0, 0, 0, 0, 0, 0, 0];
+
+thread_local! {
+    /// One index for all that a thread asks: it has room for every model, and what it held before says nothing.
+    static INDEX: RefCell<Vec<u16>> = RefCell::new(vec![0; INDEX_ENTRIES]);
+}
 
 pub struct Judged {
     pub verdict: Verdict,
@@ -22,7 +28,9 @@ pub fn check(model: &[u8], trace: &[u8]) -> Judged {
     let mut state = vec![0; STATE_BYTES];
     let mut table = vec![0; TABLE_ENTRIES];
     let mut names = vec![0; NAMES_BYTES];
-    let verdict = library::check(model, trace, &mut state, &mut table, &mut names);
+    let verdict = INDEX.with_borrow_mut(|index| {
+        library::check_by_size(model, trace, &mut state, &mut table, &mut names, index)
+    });
     Judged { verdict, state, table, names }
 }
 
@@ -43,7 +51,10 @@ impl Judged {
 
     /// The rounds of the last state alone, from the library's closing.
     pub fn rounds(&self, model: &[u8]) -> Result<usize, u8> {
-        library::close(model, &self.state, &mut vec![0; TABLE_ENTRIES])
+        let mut table = vec![0; TABLE_ENTRIES];
+        let closed = INDEX
+            .with_borrow_mut(|index| library::close_indexed(model, &self.state, &mut table, index));
+        closed.map(|closed| closed.rounds)
     }
 }
 

@@ -6,7 +6,7 @@ use crate::board::{rule, Board, Files, Place, PLACES};
 use crate::codes::{tree_of_facts, OR};
 use crate::gen::{fields, raise, write_model, Rng};
 use crate::read::{Attack, Rule, NAMES_IN_USE, PERSISTENT};
-use crate::{fresh, lasting, past};
+use crate::{crossed, fresh, lasting, past};
 
 type Kind = fn(Board) -> Files;
 
@@ -73,6 +73,9 @@ const KINDS: &[Kind] = &[
     past::over_formulas,
     past::misshapen,
     past::last_goal,
+    crossed::last_place,
+    crossed::one_fact,
+    crossed::wide_chain,
 ];
 
 /// And a pair of one of these, which cost some hundredths of a second each.

@@ -1,6 +1,7 @@
 //! Closing: as the text has it, with whole round sets; called by itself over lent buffers; and two
 //! quicker ones over a round table, to measure against.
 
+use crate::index::{crossings, has_room, write_index};
 use crate::read::{clause_section, parse_model, Clause, Model};
 use crate::{room, write_table, Fault, FACT, NONE, ROOM, STATE_BYTES, TABLE_ENTRIES};
 use std::collections::BTreeSet;
@@ -42,17 +43,50 @@ fn next_round(clauses: &[Clause], round: &[bool]) -> Vec<bool> {
 
 /// Closing called by itself: the number of rounds, or the refusal's number with nothing changed.
 pub fn close_api(model: &[u8], state: &[u8], table: &mut [u16]) -> Result<usize, u8> {
+    close_in(model, state, table, None).map(|closed| closed.rounds)
+}
+
+/// What closing answers that is lent an index.
+#[derive(Clone, Copy, Debug, PartialEq, Eq)]
+pub struct Closed {
+    pub rounds: usize,
+    pub crossings: usize,
+}
+
+/// The same with an index lent, which is then written. ROOM for it comes after all that is said of
+/// the model, and before the 6 of a starting state.
+pub fn close_indexed_api(
+    model: &[u8],
+    state: &[u8],
+    table: &mut [u16],
+    index: &mut [u16],
+) -> Result<Closed, u8> {
+    close_in(model, state, table, Some(index))
+}
+
+fn close_in(
+    model: &[u8],
+    state: &[u8],
+    table: &mut [u16],
+    index: Option<&mut [u16]>,
+) -> Result<Closed, u8> {
     if !room(state, table) {
         return Err(ROOM);
     }
     let model = parse_model(model).map_err(|fault| fault.number)?;
+    if index.as_ref().is_some_and(|index| !has_room(&model, index)) {
+        return Err(ROOM);
+    }
     let start = facts_in(&state[..STATE_BYTES]);
     if start.iter().any(|f| *f >= model.facts) {
         return Err(FACT);
     }
     let (rounds, numbers) = close(&model, &start);
     write_table(&numbers, table);
-    Ok(rounds)
+    if let Some(index) = index {
+        write_index(&model, index);
+    }
+    Ok(Closed { rounds, crossings: crossings(&model, &numbers) })
 }
 
 fn facts_in(state: &[u8]) -> BTreeSet<u16> {

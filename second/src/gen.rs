@@ -1,10 +1,11 @@
 //! Random pairs for comparing programs: sound ones whose steps run, and damaged ones.
 //! A pair depends on its seed and index alone, so any one of a stream can be made again.
 
-use crate::read::{bare_sections, sections, Attack, Clause, Model, Rule};
+use crate::read::{bare_sections, initial_in, places_in, sections};
+use crate::read::{Attack, Clause, Model, Rule};
 use crate::read::{FORMULAS, NAMES_IN_USE, PERSISTENT};
 use crate::{bounds, codes};
-use crate::{NAMES_BYTES, STATE_BYTES, TABLE_ENTRIES};
+use crate::{INDEX_ENTRIES, NAMES_BYTES, STATE_BYTES, TABLE_ENTRIES};
 use std::collections::BTreeSet;
 
 /// Splitmix64.
@@ -43,6 +44,7 @@ pub struct Pair {
     pub state_len: usize,
     pub table_len: usize,
     pub names_len: usize,
+    pub index_len: usize,
 }
 
 impl Pair {
@@ -54,19 +56,32 @@ impl Pair {
         let names = (0..self.names_len).map(|i| (junk >> (i % 53)) as u8).collect();
         (state, table, names)
     }
+
+    /// The index likewise.
+    pub fn index(&self, seed: u64, index: u64) -> Vec<u16> {
+        let junk = Rng::new(seed ^ 0x1DE8, index).draw();
+        (0..self.index_len).map(|i| (junk >> (i % 47)) as u16).collect()
+    }
 }
 
 /// One pair in so many of the mixed stream is at a bound, the last of them.
-pub const AT_BOUNDS: u64 = 20;
+pub const AT_BOUNDS: u64 = 19;
 
 /// The mixed stream: a bit under half sound, the rest damaged or at the bounds, now and then too
 /// little room.
 pub fn pair(seed: u64, index: u64) -> Pair {
     let mut rng = Rng::new(seed, index);
-    if index % AT_BOUNDS == AT_BOUNDS - 1 {
-        return roomy(bounds::files(&mut rng, index / AT_BOUNDS));
-    }
-    let (model, trace) = if rng.below(100) < 45 { sound_files(&mut rng) } else { damage(&mut rng) };
+    let mut pair = if index % AT_BOUNDS == AT_BOUNDS - 1 {
+        roomy(bounds::files(&mut rng, index / AT_BOUNDS))
+    } else {
+        some_pair(&mut rng)
+    };
+    pair.index_len = some_index(&mut rng, places_in(&pair.model));
+    pair
+}
+
+fn some_pair(rng: &mut Rng) -> Pair {
+    let (model, trace) = if rng.below(100) < 45 { sound_files(rng) } else { damage(rng) };
     let mut pair = roomy((model, trace));
     match rng.below(150) {
         0 => pair.state_len = rng.of(&[0, 1, 256, 510, 511]),
@@ -83,6 +98,19 @@ pub fn pair(seed: u64, index: u64) -> Pair {
     pair
 }
 
+/// Room for an index around what so many body places need: every third one has too little.
+fn some_index(rng: &mut Rng, places: usize) -> usize {
+    match rng.below(40) {
+        0..=7 => places.saturating_sub(1),
+        8..=10 => rng.below(places),
+        11..=13 => 0,
+        14..=26 => places,
+        27..=33 => places + 1,
+        34..=38 => places + 64,
+        _ => INDEX_ENTRIES,
+    }
+}
+
 /// Only pairs that ATTACK, BLOCKED, NOATTACK or USED answers.
 pub fn sound(seed: u64, index: u64) -> Pair {
     roomy(sound_files(&mut Rng::new(seed, index)))
@@ -94,7 +122,31 @@ pub fn damaged(seed: u64, index: u64) -> Pair {
 }
 
 fn roomy((model, trace): (Vec<u8>, Vec<u8>)) -> Pair {
-    Pair { model, trace, state_len: STATE_BYTES, table_len: TABLE_ENTRIES, names_len: NAMES_BYTES }
+    Pair {
+        model,
+        trace,
+        state_len: STATE_BYTES,
+        table_len: TABLE_ENTRIES,
+        names_len: NAMES_BYTES,
+        index_len: INDEX_ENTRIES,
+    }
+}
+
+/// A starting state for a file's facts, as far as they can be read. One in three has those that the file
+/// starts with, so that it closes as far as it is made to.
+pub fn start_for(seed: u64, index: u64, model: &[u8]) -> Vec<u8> {
+    if !Rng::new(seed ^ 0x1417, index).one_in(3) {
+        return start_state(seed, index, facts_in(model));
+    }
+    let mut state = vec![0; STATE_BYTES];
+    let initial = initial_in(model).into_iter().map(usize::from).filter(|f| *f < 4_096);
+    initial.for_each(|f| state[f / 8] |= 1 << (f % 8));
+    state
+}
+
+/// F as a file has it, at most 4,096.
+fn facts_in(model: &[u8]) -> usize {
+    model.get(5..7).map_or(6, |two| u16::from_be_bytes([two[0], two[1]]).min(4_096) as usize)
 }
 
 /// A starting state for closing by itself; one in eight has a bit from F on if F leaves any, one in

@@ -6,21 +6,26 @@ mod bounds;
 pub mod close;
 mod codes;
 mod count;
+mod crossed;
 mod formula;
 mod fresh;
 pub mod gen;
+mod index;
 mod lasting;
 mod past;
 pub mod read;
 mod tally;
 
-pub use close::{bench_close, bench_close_flat, close, close_api};
-pub use close::{clause_place, flat, Flat, Judged};
+pub use close::{bench_close, bench_close_flat, close, close_api, close_indexed_api};
+pub use close::{clause_place, flat, Closed, Flat, Judged};
 pub use count::{count_api, Counts};
+pub use index::places;
 pub use read::{parse, parse_model, Attack, Clause, Model, Parsed, Part, Rule, Trace};
-pub use tally::Tally;
+pub use tally::{Indexed, Tally};
 
 use formula::{truth, Formula};
+use index::{has_room, write_index};
+use read::parse_for;
 use std::collections::BTreeSet;
 
 pub const ATTACK: u8 = 0;
@@ -65,6 +70,9 @@ pub const STATE_BYTES: usize = 512;
 pub const TABLE_ENTRIES: usize = 4_096;
 pub const NAMES_BYTES: usize = 128;
 
+/// Enough for the body places of every model.
+pub const INDEX_ENTRIES: usize = 32_768;
+
 /// A refusal before the first step: its number and the bytes it blames.
 #[derive(Clone, Copy, Debug, PartialEq, Eq)]
 pub struct Fault {
@@ -96,16 +104,46 @@ pub fn check(
     table: &mut [u16],
     names: &mut [u8],
 ) -> Verdict {
+    check_in(model, trace, state, table, names, None)
+}
+
+/// The same with an index lent besides, which is written whenever the pair isn't refused. ROOM for it
+/// comes after all that is said of the model.
+pub fn check_indexed(
+    model: &[u8],
+    trace: &[u8],
+    state: &mut [u8],
+    table: &mut [u16],
+    names: &mut [u8],
+    index: &mut [u16],
+) -> Verdict {
+    check_in(model, trace, state, table, names, Some(index))
+}
+
+const NO_ROOM: Fault = Fault { number: ROOM, mark: MODEL, start: 0, len: 0 };
+
+fn check_in(
+    model: &[u8],
+    trace: &[u8],
+    state: &mut [u8],
+    table: &mut [u16],
+    names: &mut [u8],
+    index: Option<&mut [u16]>,
+) -> Verdict {
     if !room(state, table) || names.len() < NAMES_BYTES {
-        return refusal(Fault { number: ROOM, mark: MODEL, start: 0, len: 0 });
+        return refusal(NO_ROOM);
     }
-    match parse(model, trace) {
+    let is_short = |model: &Model| index.as_ref().is_some_and(|index| !has_room(model, index));
+    match parse_for(model, trace, |model| if is_short(model) { Err(NO_ROOM) } else { Ok(()) }) {
         Err(fault) => refusal(fault),
         Ok(parsed) => {
             let end = run(&parsed);
             write_bits(&end.stored, &mut state[..STATE_BYTES]);
             write_table(end.numbers(), table);
             write_bits(&end.used, &mut names[..NAMES_BYTES]);
+            if let Some(index) = index {
+                write_index(&parsed.model, index);
+            }
             end.verdict
         }
     }

@@ -60,7 +60,8 @@ pub(crate) fn full_of_past(mut b: Board) -> Files {
     let states = 3 + b.rng.below(5);
     let other = b.one();
     let facts = b.loose(if way < 3 { 85 } else { 64 });
-    let at = place(&mut b, facts.len());
+    // By turns, and not by luck: few turns have their last look back decide.
+    let at = if b.turn % 4 < 3 { facts.len() - 1 } else { b.rng.below(facts.len()) };
     let leaf = |fact: u16| match way {
         0 => vec![ONCE, fact],
         1 => vec![YESTERDAY, fact],

@@ -102,11 +102,22 @@ const TRACE_VERSIONS: &[u8] = &[1];
 
 /// Everything judged before the first step, buffers apart: numbers 2 to 9, 12 and 17.
 pub fn parse(model: &[u8], trace: &[u8]) -> Result<Parsed, Fault> {
+    parse_for(model, trace, |_| Ok(()))
+}
+
+/// The same with a refusal that hangs on the model: it comes after all of the model's, and before the
+/// trace's but for 2 and 3.
+pub(crate) fn parse_for(
+    model: &[u8],
+    trace: &[u8],
+    judge: impl FnOnce(&Model) -> Result<(), Fault>,
+) -> Result<Parsed, Fault> {
     judge_size(model, 65_536).map_err(in_model)?;
     judge_size(trace, 4_096).map_err(in_trace)?;
     judge_version(model, MODEL_VERSIONS).map_err(in_model)?;
     judge_version(trace, TRACE_VERSIONS).map_err(in_trace)?;
     let (model, goal_places) = read_model(model).map_err(in_model)?;
+    judge(&model)?;
     let trace = read_trace(trace, &model).map_err(in_trace)?;
     Ok(Parsed { model, trace, goal_places })
 }
@@ -196,6 +207,25 @@ pub(crate) fn section_part(model: &[u8], index: usize) -> Option<Part> {
         at = section(model, at).ok()?.end();
     }
     Some(section(model, at).unwrap_or_else(|(_, rest)| rest))
+}
+
+/// The initial facts of a file, as far as they can be followed.
+pub(crate) fn initial_in(model: &[u8]) -> Vec<u16> {
+    let all = if model.is_empty() { None } else { section_part(model, 1) };
+    all.map_or(Vec::new(), |part| numbers(part.of(model)))
+}
+
+/// The body places of a file's clauses, as far as they can be followed.
+pub(crate) fn places_in(model: &[u8]) -> usize {
+    let clauses = || section_part(model, bare_sections(model));
+    let all = if model.is_empty() { None } else { clauses() };
+    let Some(Part { mut start, len }) = all else { return 0 };
+    let (end, mut places) = (start + len, 0);
+    while let Ok(record) = record_place(model, Part { start, len: end - start }) {
+        places += record.len.saturating_sub(4) / 2;
+        start = record.end();
+    }
+    places
 }
 
 /// What the names of a rule's record are refused with if nothing else in it is: SHAPE, COUNT, BADNAME or ORDER.

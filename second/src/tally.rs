@@ -1,25 +1,53 @@
 //! How often each verdict, each kind of unmet condition and each thing of versions 2 to 4 comes up in
 //! a stream of pairs.
 
+use crate::close::{close_api, close_indexed_api, Closed};
 use crate::formula::{self, truth, Wrong};
-use crate::gen::Pair;
+use crate::gen::{start_for, Pair};
 use crate::read::{
-    bare_sections, names_at_fault, numbers, parse, section_part, sections, Parsed, Part,
+    bare_sections, names_at_fault, numbers, parse, places_in, section_part, sections, Parsed, Part,
 };
 use crate::read::{FORMULAS, NAMES_IN_USE, PERSISTENT};
+use crate::{asked, check_indexed, run, Verdict};
 use crate::{
-    asked, run, Verdict, ATTACK, BADNAME, BLOCKED, COUNT, FACT, FORMULA, MODEL, NAME, NAMES,
+    ATTACK, BADNAME, BLOCKED, COUNT, FACT, FORMULA, LONG, MODEL, NAME, NAMES, NEGATED, NEGATIVE,
 };
-use crate::{
-    NEGATED, NEGATIVE, NOATTACK, NONE, ORDER, POSITIVE, ROOM, SHAPE, TRACE, USED, VERSION,
-};
+use crate::{NOATTACK, NONE, ORDER, POSITIVE, ROOM, SHAPE, TRACE, USED, VERSION};
 use std::collections::BTreeSet;
 
-/// A pair with its verdict, with the one that it had if no fact were persistent, with what its names
-/// did, and with what its goal hangs on if that is a formula.
+/// What comes of a pair where an index is lent: the check's number, and what closing by itself answers with
+/// the index and without it.
+pub struct Indexed {
+    pub number: u8,
+    pub closed: Result<Closed, u8>,
+    pub plain: Result<usize, u8>,
+}
+
+impl Indexed {
+    /// By this program, for a pair of a stream.
+    pub fn of(pair: &Pair, seed: u64, index: u64) -> Indexed {
+        let Pair { model, trace, .. } = pair;
+        let (mut state, mut table, mut names) = pair.buffers(seed, index);
+        let mut places = pair.index(seed, index);
+        let start = start_for(seed, index, model);
+        let closed = close_indexed_api(model, &start, &mut table, &mut places);
+        let plain = match closed {
+            Err(ROOM) => close_api(model, &start, &mut table),
+            other => other.map(|closed| closed.rounds),
+        };
+        let number =
+            check_indexed(model, trace, &mut state, &mut table, &mut names, &mut places).number;
+        Indexed { number, closed, plain }
+    }
+}
+
+/// A pair with its verdict, with what comes of it with an index, with the verdict that it had if no fact
+/// were persistent, with what its names did, and with what its goal hangs on if that is a formula.
 struct Seen<'a> {
     pair: &'a Pair,
     verdict: &'a Verdict,
+    indexed: &'a Indexed,
+    places: usize,
     without: Verdict,
     named: Named,
     asked: Option<Asked>,
@@ -52,7 +80,7 @@ struct Asked {
 /// Whether a pair counts.
 type Counts = fn(&Seen) -> bool;
 
-const ROWS: [(&str, Counts); 44] = [
+const ROWS: [(&str, Counts); 55] = [
     ("positive", |s| s.verdict.kind == POSITIVE),
     ("negative, stored", |s| s.verdict.kind == NEGATIVE && s.verdict.round == 0),
     ("negative, round 1", |s| s.verdict.kind == NEGATIVE && s.verdict.round == 1),
@@ -97,6 +125,17 @@ const ROWS: [(&str, Counts); 44] = [
     ("VERSION of a model, 5", |s| s.has_version(MODEL, 5)),
     ("VERSION of a model, 255", |s| s.has_version(MODEL, 255)),
     ("VERSION of a trace, 2", |s| s.has_version(TRACE, 2)),
+    ("an index, just long enough", |s| s.is_run() && s.has_entries(s.places)),
+    (".. and longer", |s| s.is_run() && s.pair.index_len > s.places),
+    ("ROOM of an index", |s| s.is_short()),
+    (".. by one entry", |s| s.is_short() && s.has_entries(s.places - 1)),
+    (".. before the trace's fault", |s| s.is_short() && s.blames_trace(&[SHAPE, COUNT, NAME])),
+    (".. after the trace's 2 or 3", |s| s.lacks_entries() && s.blames_trace(&[LONG, VERSION])),
+    (".. after the model's fault", |s| s.lacks_entries() && s.blames_model()),
+    (".. of closing", |s| s.closing_is_short()),
+    (".. of closing, before its 6", |s| s.closing_is_short() && s.indexed.plain == Err(FACT)),
+    ("all places crossed", |s| s.crossings().is_some_and(|n| n > 0 && n == s.places)),
+    (".. not all", |s| s.crossings().is_some_and(|n| n < s.places)),
 ];
 
 impl Seen<'_> {
@@ -140,6 +179,41 @@ impl Seen<'_> {
         let Verdict { number, start, len, .. } = *self.verdict;
         let codes = || numbers(&self.pair.model[start + 2..start + len]);
         number == FORMULA && formula::read(&codes()).err() == Some(wrong)
+    }
+
+    /// Neither refused nor without entries for the index.
+    fn is_run(&self) -> bool {
+        self.places > 0 && matches!(self.indexed.number, ATTACK | BLOCKED | NOATTACK | USED)
+    }
+
+    fn has_entries(&self, entries: usize) -> bool {
+        self.pair.index_len == entries
+    }
+
+    fn lacks_entries(&self) -> bool {
+        self.pair.index_len < self.places
+    }
+
+    /// Refused for the index and for nothing else.
+    fn is_short(&self) -> bool {
+        self.indexed.number == ROOM && self.verdict.number != ROOM
+    }
+
+    fn closing_is_short(&self) -> bool {
+        self.indexed.closed == Err(ROOM) && self.indexed.plain != Err(ROOM)
+    }
+
+    fn crossings(&self) -> Option<usize> {
+        self.indexed.closed.ok().map(|closed| closed.crossings)
+    }
+
+    fn blames_trace(&self, numbers: &[u8]) -> bool {
+        self.verdict.mark == TRACE && numbers.contains(&self.verdict.number)
+    }
+
+    fn blames_model(&self) -> bool {
+        let of_model = [SHAPE, COUNT, FACT, ORDER, BADNAME, FORMULA];
+        self.verdict.mark == MODEL && of_model.contains(&self.verdict.number)
     }
 
     /// Refused for a version, and for which.
@@ -212,10 +286,11 @@ impl Default for Tally {
 }
 
 impl Tally {
-    pub fn add(&mut self, pair: &Pair, verdict: &Verdict) {
+    pub fn add(&mut self, pair: &Pair, verdict: &Verdict, indexed: &Indexed) {
         self.numbers[verdict.number as usize] += 1;
         let (without, named) = (*verdict, Named::default());
-        let mut seen = Seen { pair, verdict, without, named, asked: None };
+        let places = places_in(&pair.model);
+        let mut seen = Seen { pair, verdict, indexed, places, without, named, asked: None };
         if let (Ok(parsed), true) = (parse(&pair.model, &pair.trace), verdict.number != ROOM) {
             seen.named = self::named(&parsed, verdict);
             seen.asked = hangs_on(&parsed, verdict);

@@ -303,7 +303,7 @@ fn the_stream_is_mixed_and_repeatable() {
         let room = (pair.state_len, pair.table_len, pair.names_len);
         let v = judge_in(&pair.model, &pair.trace, room);
         assert_ne!(v.number, NEGATED);
-        tally.add(&pair, &v);
+        tally.add(&pair, &v, &Indexed::of(&pair, 2, index));
         let sound = gen::sound(2, index);
         let number = judge(&sound.model, &sound.trace).number;
         assert!([ATTACK, BLOCKED, NOATTACK, USED].contains(&number));

@@ -3,9 +3,10 @@
 
 pub mod plain;
 pub mod watch;
+pub mod worklist;
 
-use cantivorex::{FIGURES, VALUES};
-use second::{Counts, Verdict};
+use cantivorex::{CLOSED, FIGURES, VALUES};
+use second::{Closed, Counts, Verdict, ROOM};
 use std::fmt::Debug;
 
 /// Entries on both sides of a lent area; a write outside the area shows there.
@@ -46,32 +47,64 @@ fn values(v: &Verdict) -> [u64; VALUES] {
     [number, step, fact, rounds, held, kind, round, mark, start, len].map(|n| n as u64)
 }
 
-/// The three buffers of a check, each with its guards.
+/// The buffers of a check, each with its guards; with an index where one is lent.
 #[derive(Clone)]
 struct Buffers {
     state: Vec<u8>,
     table: Vec<u16>,
     names: Vec<u8>,
+    index: Option<Vec<u16>>,
 }
 
 impl Buffers {
-    fn new(state: &[u8], table: &[u16], names: &[u8]) -> Buffers {
+    fn new(state: &[u8], table: &[u16], names: &[u8], index: Option<&[u16]>) -> Buffers {
         Buffers {
             state: guarded(state, 0xC3),
             table: guarded(table, 0xC3C3),
             names: guarded(names, 0xC3),
+            index: index.map(|index| guarded(index, 0xC3C3)),
         }
     }
 
-    /// What is lent to a check.
-    fn lent(&mut self) -> (&mut [u8], &mut [u16], &mut [u8]) {
-        (inside(&mut self.state), inside(&mut self.table), inside(&mut self.names))
+    /// The library's check in them, of the form that they are for.
+    fn ask(&mut self, model: &[u8], trace: &[u8], out: &mut [u64]) -> u8 {
+        let (state, table) = (inside(&mut self.state), inside(&mut self.table));
+        let names = inside(&mut self.names);
+        match &mut self.index {
+            None => cantivorex::check_into(model, trace, state, table, names, out),
+            Some(index) => {
+                let index = inside(index);
+                cantivorex::check_indexed_into(model, trace, state, table, names, index, out)
+            }
+        }
+    }
+
+    /// The library's check against the verdict of the second program, and what that left.
+    fn check(
+        mut self,
+        model: &[u8],
+        trace: &[u8],
+        verdict: &Verdict,
+        theirs: &Buffers,
+    ) -> Result<(), String> {
+        let mut out = guarded(&[7; VALUES + 1], 9);
+        let mut out_2 = out.clone();
+        let number = self.ask(model, trace, inside(&mut out));
+        inside(&mut out_2)[..VALUES].copy_from_slice(&values(verdict));
+        same("the number", number, verdict.number)?;
+        same_area("the verdict's values", &out, &out_2)?;
+        self.same("", theirs)?;
+        part(model, trace, verdict.mark, verdict.start, verdict.len, verdict.len)
     }
 
     fn same(&self, when: &str, theirs: &Buffers) -> Result<(), String> {
         same_area(&format!("the state{when}"), &self.state, &theirs.state)?;
         same_area(&format!("the table{when}"), &self.table, &theirs.table)?;
-        same_area(&format!("the names{when}"), &self.names, &theirs.names)
+        same_area(&format!("the names{when}"), &self.names, &theirs.names)?;
+        match (&self.index, &theirs.index) {
+            (Some(ours), Some(theirs)) => same_area(&format!("the index{when}"), ours, theirs),
+            _ => Ok(()),
+        }
     }
 }
 
@@ -83,24 +116,45 @@ pub fn check(
     table: &mut [u16],
     names: &mut [u8],
 ) -> Result<Verdict, String> {
-    let mut ours = Buffers::new(state, table, names);
-    let mut theirs = ours.clone();
-    let mut our_out = guarded(&[7; VALUES + 1], 9);
-    let mut out_2 = our_out.clone();
-    let (s, t, n) = ours.lent();
-    let number = cantivorex::check_into(model, trace, s, t, n, inside(&mut our_out));
-    let (s, t, n) = theirs.lent();
-    let verdict = second::check(model, trace, s, t, n);
-    inside(&mut out_2)[..VALUES].copy_from_slice(&values(&verdict));
-    same("the number", number, verdict.number)?;
-    same_area("the verdict's values", &our_out, &out_2)?;
-    ours.same("", &theirs)?;
-    part(model, trace, verdict.mark, verdict.start, verdict.len, verdict.len)?;
-    let (s, t, n) = ours.lent();
-    state.copy_from_slice(s);
-    table.copy_from_slice(t);
-    names.copy_from_slice(n);
+    let ours = Buffers::new(state, table, names, None);
+    let verdict = second::check(model, trace, state, table, names);
+    ours.check(model, trace, &verdict, &Buffers::new(state, table, names, None))?;
     Ok(verdict)
+}
+
+/// The same with an index lent.
+pub fn check_indexed(
+    model: &[u8],
+    trace: &[u8],
+    state: &mut [u8],
+    table: &mut [u16],
+    names: &mut [u8],
+    index: &mut [u16],
+) -> Result<Verdict, String> {
+    let ours = Buffers::new(state, table, names, Some(index));
+    let verdict = second::check_indexed(model, trace, state, table, names, index);
+    ours.check(model, trace, &verdict, &Buffers::new(state, table, names, Some(index)))?;
+    Ok(verdict)
+}
+
+/// A check with an index lent and without one: both verdicts, in this order. The pair is run once by the second
+/// program, since an index changes nothing but itself unless it is too short.
+pub fn check_forms(
+    model: &[u8],
+    trace: &[u8],
+    state: &mut [u8],
+    table: &mut [u16],
+    names: &mut [u8],
+    index: &mut [u16],
+) -> Result<(Verdict, Verdict), String> {
+    let ours = Buffers::new(state, table, names, None);
+    let indexed = check_indexed(model, trace, state, table, names, index)
+        .map_err(|difference| format!("with an index, {difference}"))?;
+    if indexed.number == ROOM {
+        return Ok((indexed, check(model, trace, state, table, names)?));
+    }
+    ours.check(model, trace, &indexed, &Buffers::new(state, table, names, None))?;
+    Ok((indexed, indexed))
 }
 
 /// A check without room for its verdict: 1, and nothing is changed.
@@ -110,35 +164,98 @@ pub fn check_short(
     state: &[u8],
     table: &[u16],
     names: &[u8],
+    index: Option<&[u16]>,
     entries: usize,
 ) -> Result<(), String> {
-    let mut ours = Buffers::new(state, table, names);
+    let mut ours = Buffers::new(state, table, names, index);
     let before = ours.clone();
     let mut out = vec![7; entries];
-    let (s, t, n) = ours.lent();
-    same("a short out", cantivorex::check_into(model, trace, s, t, n, &mut out), 1)?;
+    same("a short out", ours.ask(model, trace, &mut out), 1)?;
     ours.same(" under a short out", &before)?;
     same("a short out's entries", out, vec![7; entries])
 }
 
 /// Closing by itself of both, or what differs.
 pub fn close(model: &[u8], state: &[u8], table: &mut [u16]) -> Result<Result<usize, u8>, String> {
-    let mut our_table = guarded(table, 0xC3C3);
-    let mut table_2 = our_table.clone();
+    let before = table.to_vec();
+    let answer = second::close_api(model, state, table);
+    close_is(model, state, &before, answer, table)?;
+    Ok(answer)
+}
+
+/// The library's closing, without room for its answer and with it, against the answer and the table of the second
+/// program.
+fn close_is(
+    model: &[u8],
+    state: &[u8],
+    before: &[u16],
+    answer: Result<usize, u8>,
+    table: &[u16],
+) -> Result<(), String> {
+    let (mut our_table, table_2) = (guarded(before, 0xC3C3), guarded(table, 0xC3C3));
     same("no out", cantivorex::close_into(model, state, inside(&mut our_table), &mut []), 1)?;
-    same_area("the table without out", &our_table, &table_2)?;
-    let mut out = guarded(&[7; 2], 9);
+    same_area("the table without out", &our_table, &guarded(before, 0xC3C3))?;
+    let (mut out, mut out_2) = (guarded(&[7; 2], 9), guarded(&[7; 2], 9));
     let number = cantivorex::close_into(model, state, inside(&mut our_table), inside(&mut out));
-    let answer = second::close_api(model, state, inside(&mut table_2));
-    let mut out_2 = guarded(&[7; 2], 9);
     if let Ok(rounds) = answer {
         inside(&mut out_2)[0] = rounds as u64;
     }
     same("closing's number", number, answer.err().unwrap_or(0))?;
     same_area("closing's rounds", &out, &out_2)?;
-    same_area("closing's table", &our_table, &table_2)?;
-    table.copy_from_slice(inside(&mut our_table));
+    same_area("closing's table", &our_table, &table_2)
+}
+
+/// Closing by itself of both with an index lent, first into an `out` that is too short.
+pub fn close_indexed(
+    model: &[u8],
+    state: &[u8],
+    table: &mut [u16],
+    index: &mut [u16],
+) -> Result<Result<Closed, u8>, String> {
+    let (mut our_table, mut our_index) = (guarded(table, 0xC3C3), guarded(index, 0xC3C3));
+    for entries in 0..CLOSED {
+        let (t, i) = (inside(&mut our_table), inside(&mut our_index));
+        let mut short = vec![7; entries];
+        same(
+            "a short out to close",
+            cantivorex::close_indexed_into(model, state, t, i, &mut short),
+            1,
+        )?;
+        same("a short out's rounds", short, vec![7; entries])?;
+    }
+    same_area("the table under a short out", &our_table, &guarded(table, 0xC3C3))?;
+    same_area("the index under a short out", &our_index, &guarded(index, 0xC3C3))?;
+    let (mut out, mut out_2) = (guarded(&[7; CLOSED + 1], 9), guarded(&[7; CLOSED + 1], 9));
+    let (t, i) = (inside(&mut our_table), inside(&mut our_index));
+    let number = cantivorex::close_indexed_into(model, state, t, i, inside(&mut out));
+    let answer = second::close_indexed_api(model, state, table, index);
+    if let Ok(Closed { rounds, crossings }) = answer {
+        let both = [rounds, crossings].map(|n| n as u64);
+        inside(&mut out_2)[..CLOSED].copy_from_slice(&both);
+    }
+    same("closing's number", number, answer.err().unwrap_or(0))?;
+    same_area("closing's rounds and crossings", &out, &out_2)?;
+    same_area("closing's table", &our_table, &guarded(table, 0xC3C3))?;
+    same_area("closing's index", &our_index, &guarded(index, 0xC3C3))?;
     Ok(answer)
+}
+
+/// Closing with an index lent and without one: both answers, in this order. The second program closes once.
+pub fn close_forms(
+    model: &[u8],
+    state: &[u8],
+    table: &mut [u16],
+    index: &mut [u16],
+) -> Result<(Result<Closed, u8>, Result<usize, u8>), String> {
+    let before = table.to_vec();
+    let indexed = close_indexed(model, state, table, index)
+        .map_err(|difference| format!("with an index, {difference}"))?;
+    if indexed == Err(ROOM) {
+        return Ok((indexed, close(model, state, table)?));
+    }
+    let plain = indexed.map(|closed| closed.rounds);
+    close_is(model, state, &before, plain, table)?;
+    Ok((indexed, plain))
 }
 
 /// What a model has, counted by both, or what differs; first into a few entries that are too few.

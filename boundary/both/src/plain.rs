@@ -11,12 +11,12 @@ fn worse(a: u8, b: u8) -> u8 {
     }
 }
 
-fn word(bytes: &[u8]) -> usize {
+pub(crate) fn word(bytes: &[u8]) -> usize {
     u16::from_be_bytes([bytes[0], bytes[1]]) as usize
 }
 
 /// Takes the next section off the rest of the file.
-fn section<'a>(rest: &mut &'a [u8]) -> Option<&'a [u8]> {
+pub(crate) fn section<'a>(rest: &mut &'a [u8]) -> Option<&'a [u8]> {
     let (len, after) = rest.split_at_checked(4)?;
     let len = u32::from_be_bytes([len[0], len[1], len[2], len[3]]) as usize;
     let (bytes, after) = after.split_at_checked(len)?;
@@ -25,7 +25,7 @@ fn section<'a>(rest: &mut &'a [u8]) -> Option<&'a [u8]> {
 }
 
 /// Takes the next record off the rest of its section.
-fn record<'a>(rest: &mut &'a [u8]) -> Option<&'a [u8]> {
+pub(crate) fn record<'a>(rest: &mut &'a [u8]) -> Option<&'a [u8]> {
     let (len, after) = rest.split_at_checked(2)?;
     let (bytes, after) = after.split_at_checked(word(len))?;
     *rest = after;

@@ -1,7 +1,7 @@
 //! The second program's own tests, run through both programs: cases A to L, the edges, every fault and every two faults
-//! together, versions 2 to 4.
-//! Those tests say `second`; here that is this file, whose `check`, `close_api` and `count_api` make each call of both
-//! and compare.
+//! together, versions 2 to 4, and the index.
+//! Those tests say `second`; here that is this file, whose `check`, `close_api` and `count_api`, and the first two with
+//! an index, make each call of both and compare.
 
 extern crate second as other;
 extern crate self as second;
@@ -16,6 +16,8 @@ mod formulas;
 mod names;
 #[path = "../../../second/tests/persistent.rs"]
 mod persistent;
+#[path = "../../../second/tests/places.rs"]
+mod places_crossed;
 
 pub use other::*;
 
@@ -32,6 +34,28 @@ pub fn check(
 
 pub fn close_api(model: &[u8], state: &[u8], table: &mut [u16]) -> Result<usize, u8> {
     both::close(model, state, table).unwrap_or_else(|difference| panic!("{difference}"))
+}
+
+pub fn check_indexed(
+    model: &[u8],
+    trace: &[u8],
+    state: &mut [u8],
+    table: &mut [u16],
+    names: &mut [u8],
+    index: &mut [u16],
+) -> Verdict {
+    let verdict = both::check_indexed(model, trace, state, table, names, index);
+    verdict.unwrap_or_else(|difference| panic!("{difference}"))
+}
+
+pub fn close_indexed_api(
+    model: &[u8],
+    state: &[u8],
+    table: &mut [u16],
+    index: &mut [u16],
+) -> Result<Closed, u8> {
+    let answer = both::close_indexed(model, state, table, index);
+    answer.unwrap_or_else(|difference| panic!("{difference}"))
 }
 
 pub fn count_api(model: &[u8]) -> Result<Counts, u8> {

@@ -1,8 +1,9 @@
 //! The edges of document 01: a pair on each side of every bound and one for each fault, through the proved library; the
-//! same for versions 2 to 4, what a step does to persistent facts and to names, what formulas say; and what models have.
-//! What must come out was worked out by hand: EDGES.md has the reasoning, edges.txt, effects.txt and figures.txt the lines.
+//! same for versions 2 to 4, what a step does to persistent facts and to names, what formulas say; what models have;
+//! what stands in an index. What must come out was worked out by hand: EDGES.md has the reasoning, edges.txt,
+//! effects.txt, figures.txt and indexes.txt the lines.
 
-use cantivorex::{Counts, Verdict, NAMES_BYTES, STATE_BYTES, TABLE_ENTRIES};
+use cantivorex::{Closed, Counts, Verdict, NAMES_BYTES, STATE_BYTES, TABLE_ENTRIES};
 use second::gen::{write_model, write_trace};
 use second::{Attack, Clause, Model, Rule};
 
@@ -841,6 +842,109 @@ fn effects_of_formulas() -> Vec<Case> {
     ]
 }
 
+/// A pair, the facts from which closing by itself starts, and how many entries the index has.
+type Lent = (&'static str, Files, Vec<u16>, usize);
+
+/// The plain pair with these clauses and initial facts, from which closing starts too.
+fn placed(label: &'static str, initial: &[u16], clauses: &[(u16, &[u16])], entries: usize) -> Lent {
+    let clause = |(head, body): &(u16, &[u16])| Clause { head: *head, body: body.to_vec() };
+    let files = listed(|l| {
+        l.model.initial = initial.to_vec();
+        l.model.clauses = clauses.iter().map(clause).collect();
+    });
+    (label, files, initial.to_vec(), entries)
+}
+
+fn places() -> Vec<Lent> {
+    let own: &[(u16, &[u16])] = &[(0, &[0])];
+    let between: &[(u16, &[u16])] = &[(1, &[0]), (0, &[]), (2, &[0, 1])];
+    let shared: &[(u16, &[u16])] = &[(5, &[1]), (5, &[1, 2])];
+    let sixteen = facts(0, 16);
+    let full_body: &[(u16, &[u16])] = &[(0, &sixteen)];
+    vec![
+        placed("a place and an entry", &[], own, 1),
+        placed("a place and no entry", &[], own, 0),
+        placed("a place and three entries", &[], own, 3),
+        placed("a place whose fact is there", &[0], own, 1),
+        placed("no clause and no entry", &[], &[], 0),
+        placed("an empty body and no entry", &[], &[(0, &[])], 0),
+        placed("an empty body and two entries", &[], &[(0, &[])], 2),
+        placed("an empty body between two others", &[], between, 3),
+        placed("the same with an entry less", &[], between, 2),
+        placed("the lower fact in the later clause", &[1], &[(5, &[3]), (5, &[1])], 2),
+        placed("two clauses of a head that share a fact", &[1], shared, 3),
+        placed("two facts, each stored and derived", &[0, 1], &[(0, &[1]), (1, &[0])], 3),
+        placed("fact F-1 in a body", &[39], &[(0, &[39])], 1),
+        placed("16 body facts", &sixteen, full_body, 17),
+        placed("16 body facts and 15 entries", &sixteen, full_body, 15),
+    ]
+}
+
+fn many_places() -> Vec<Lent> {
+    let clauses = || listed(|l| repeat(&mut l.model.clauses, 4_096));
+    vec![
+        ("4096 clauses", clauses(), vec![0], 4_096),
+        ("4096 clauses and an entry less", clauses(), vec![0], 4_095),
+        ("a full model", listed(full), facts(0, 4_076), 20_480),
+        ("a full model and an entry less", listed(full), facts(0, 4_076), 20_479),
+        ("a full model and all entries", listed(full), vec![4], 32_768),
+    ]
+}
+
+/// Too short an index, or one just long enough, and something else.
+fn room_and_another() -> Vec<Lent> {
+    let twice = || in_rule(|r| r.pos = vec![0, 0]);
+    let goal = || listed(|l| l.goal = 1);
+    vec![
+        ("no entry and a model's last byte missing", plain().model_of(44), vec![], 0),
+        ("no entry and a fact twice in a rule's P", twice(), vec![], 0),
+        ("no entry and name 1024 in use", in_use(vec![1_024]), vec![], 0),
+        ("no entry and a formula of no code", formula(&[]), vec![], 0),
+        ("no entry and a trace of 4097 bytes", plain().trace_of(4_097), vec![], 0),
+        ("no entry and a trace of version 2", plain().trace_version(2), vec![], 0),
+        ("no entry and a trace's last byte missing", plain().trace_of(8), vec![], 0),
+        ("no entry and 1025 steps", listed(|l| repeat(&mut l.steps, 1_025)), vec![], 0),
+        ("no entry and an attack state that is missing", goal(), vec![], 0),
+        ("an entry and an attack state that is missing", goal(), vec![], 1),
+        ("no entry and fact F in the state", plain(), vec![40], 0),
+        ("an entry and fact F in the state", plain(), vec![40], 1),
+        ("no entry, a fault and fact F in the state", twice(), vec![40], 0),
+    ]
+}
+
+/// What an index has in the entries that are written, and `-` for each that stays; of many the first and the last.
+fn shown(index: &[u16]) -> String {
+    let written = index.iter().filter(|entry| **entry != STAYS).count();
+    if index.len() > 17 && written == 0 {
+        return format!("[- .. -, 0 of {}]", index.len());
+    }
+    if index.len() > 17 {
+        let (first, last) = (index[0], index[written - 1]);
+        return format!("[{first} .. {last}, {written} of {}]", index.len());
+    }
+    let entry = |entry: &u16| if *entry == STAYS { "-".to_string() } else { entry.to_string() };
+    format!("[{}]", index.iter().map(entry).collect::<Vec<_>>().join(" "))
+}
+
+const STAYS: u16 = 0xEEEE;
+
+fn indexed((label, files, start, entries): &Lent) -> String {
+    let Files { model, trace } = files;
+    let (mut state, mut table) = ([0; STATE_BYTES], [0; TABLE_ENTRIES]);
+    start.iter().for_each(|f| state[*f as usize / 8] |= 1 << (f % 8));
+    let [mut one, mut two] = [0; 2].map(|_| vec![STAYS; *entries]);
+    let closed = match cantivorex::close_indexed(model, &state, &mut table, &mut one) {
+        Ok(Closed { rounds, crossings }) => format!("{rounds} rounds {crossings} crossed"),
+        Err(number) => format!("number {number}"),
+    };
+    let names = &mut [0; NAMES_BYTES];
+    let v = cantivorex::check_indexed(model, trace, &mut state, &mut table, names, &mut two);
+    if v.number == 1 {
+        assert_eq!((v.step, v.rounds, v.held, v.mark, v.start, v.size), (0, 0, 0, 0, 0, 0));
+    }
+    format!("{label}: {closed} {}, number {} {}", shown(&one), v.number, shown(&two))
+}
+
 fn verdict(files: &Files) -> Verdict {
     let (mut state, mut table) = ([0; STATE_BYTES], [0; TABLE_ENTRIES]);
     cantivorex::check(&files.model, &files.trace, &mut state, &mut table, &mut [0; NAMES_BYTES])
@@ -870,7 +974,7 @@ fn figures((label, files): &Case) -> String {
 }
 
 /// The lines of some cases against those worked out by hand.
-fn agree(cases: &[Case], line: fn(&Case) -> String, by_hand: &str) {
+fn agree<C>(cases: &[C], line: fn(&C) -> String, by_hand: &str) {
     let expected: Vec<&str> = by_hand.lines().collect();
     assert_eq!(cases.len(), expected.len(), "the number of lines");
     let pairs = cases.iter().map(line).zip(expected).filter(|(got, wanted)| got != wanted);
@@ -937,4 +1041,11 @@ fn every_effect_is_what_was_worked_out_by_hand() {
 #[test]
 fn every_model_has_what_was_worked_out_by_hand() {
     agree(&models(), figures, include_str!("figures.txt"));
+}
+
+#[test]
+fn every_index_is_what_was_worked_out_by_hand() {
+    let groups = [places, many_places, room_and_another];
+    let all: Vec<Lent> = groups.iter().flat_map(|group| group()).collect();
+    agree(&all, indexed, include_str!("indexes.txt"));
 }

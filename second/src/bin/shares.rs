@@ -1,6 +1,6 @@
 //! `shares SEED COUNT`: what comes up how often in the mixed stream.
 
-use second::{check, gen, Tally};
+use second::{check, gen, Indexed, Tally};
 use std::time::{Duration, Instant};
 
 fn main() {
@@ -19,7 +19,7 @@ fn main() {
         let begun = Instant::now();
         let verdict = check(&pair.model, &pair.trace, &mut state, &mut table, &mut names);
         checking += begun.elapsed();
-        tally.add(&pair, &verdict);
+        tally.add(&pair, &verdict, &Indexed::of(&pair, seed, index));
     }
     tally.print();
     let each = |all: Duration| all.as_secs_f64() * 1e6 / count as f64;

@@ -2,6 +2,7 @@
 //! shows the best turn of each; a ratio of 2 says that the library takes twice as long.
 
 use both::plain;
+use both::worklist::{clauses, Worklist};
 use second::gen::{self, write_model, write_trace, Pair, Rng};
 use second::{Attack, Clause, Model, Rule};
 use std::hint::black_box;
@@ -10,8 +11,25 @@ use std::time::Instant;
 
 fn main() {
     let desk = desk();
+    println!("Judging and closing by an index, against a plain worklist that does the same, and against the sweeps");
+    indexed_head();
+    for (name, model) in full_closings() {
+        indexed(name, &write_model(&model));
+    }
     println!(
-        "Closing alone, as a step's share of a check, against the second program's bench_close"
+        "\nThe closing of a step by an index, against a plain worklist, and against the sweeps"
+    );
+    indexed_head();
+    for (name, model) in full_closings() {
+        indexed_alone(name, model);
+    }
+    println!("\nWhole checks by an index, against the same without one");
+    head();
+    indexed_checks(&desk);
+    println!("\nHow the time grows with the body places: judging, index and closing");
+    indexed_growth();
+    println!(
+        "\nClosing alone, as a step's share of a check, against the second program's bench_close"
     );
     head();
     for (name, model) in closings() {
@@ -36,8 +54,161 @@ fn main() {
     println!("\nHow the time grows: closing, ns");
     growth();
     println!("\nclingo on the same clauses as facts and rules, its start included");
-    for (name, model) in closings() {
+    for (name, model) in full_closings() {
         clingo(name, &model);
+    }
+}
+
+fn indexed_head() {
+    let columns = ["judging, ns", "library, ns", "plain, ns", "ratio", "sweeps, ns", "faster"];
+    let [judging, library, plain, ratio, sweeps, faster] = columns;
+    println!(
+        "{:44} {judging:>12} {library:>12} {plain:>12} {ratio:>6} {sweeps:>12} {faster:>7}",
+        ""
+    );
+}
+
+/// One row of a closing by an index: what judging takes of it, if it does, a plain worklist, and the sweeps.
+fn indexed_row(name: &str, judging: Option<f64>, library: f64, plain: f64, sweeps: f64) {
+    let judging = judging.map_or("none".to_string(), |ns| format!("{ns:.0}"));
+    println!(
+        "{name:44} {judging:>12} {library:12.0} {plain:12.0} {:6.2} {sweeps:12.0} {:7.1}",
+        library / plain,
+        sweeps / library
+    );
+}
+
+/// The best of some turns of each by turns; what takes long gets fewer.
+fn best<const N: usize>(mut runs: [&mut dyn FnMut() -> u64; N]) -> [f64; N] {
+    let once = runs.each_mut().map(|run| time(1, run));
+    let mut least = once;
+    let longest = once.iter().copied().fold(0.0, f64::max);
+    let turns = if longest < 1e5 { 33 } else { 9 };
+    for _ in 0..turns {
+        for ((run, least), once) in runs.iter_mut().zip(&mut least).zip(once) {
+            // What takes over a second has had its turn.
+            if once < 1e9 {
+                let times = (2e6 / once.max(1.0)).clamp(1.0, 20_000.0) as u32;
+                *least = least.min(time(times, run));
+            }
+        }
+    }
+    least
+}
+
+/// Each closing judges the model first; the plain worklist does so by the plain reader.
+fn indexed(name: &str, model: &[u8]) {
+    let (state, mut list) = (state(model), Worklist::default());
+    let [mut one, mut two, mut three] = [[0; 4_096]; 3];
+    let mut index = vec![0; cantivorex::INDEX_ENTRIES];
+    let mut judging = || cantivorex::count(black_box(model)).expect("judged").facts as u64;
+    let mut library = || {
+        let closed = cantivorex::close_indexed(black_box(model), &state, &mut one, &mut index);
+        closed.expect("closed").rounds as u64
+    };
+    let mut plain = || {
+        assert_eq!(plain::judge(black_box(model)), 0);
+        list.build(clauses(model));
+        list.close(&state, &mut two).0 as u64
+    };
+    let mut sweeps =
+        || cantivorex::close(black_box(model), &state, &mut three).expect("closed") as u64;
+    assert!(library() == plain() && plain() == sweeps(), "{name}");
+    let [judging, library, plain, sweeps] =
+        best([&mut judging, &mut library, &mut plain, &mut sweeps]);
+    indexed_row(name, Some(judging), library, plain, sweeps);
+}
+
+/// A rule without conditions and effect closes the initial facts anew in each step.
+fn indexed_alone(name: &str, mut model: Model) {
+    model.rules = vec![Rule::default()];
+    model.attacks = vec![Attack::default()];
+    let model = write_model(&model);
+    let (initial, mut list) = (state(&model), Worklist::default());
+    list.build(clauses(&model));
+    let (mut lent, mut table) = (Lent::new(), [0; 4_096]);
+    let [none, few, many] = [0, 2, 256].map(|steps| write_trace(0, &vec![0; steps]));
+    let mut other = Lent::new();
+    let mut without = || lent.library(&model, &none).rounds as u64;
+    let mut swept = || other.library(&model, &few).rounds as u64;
+    let mut plain = || (0..256).map(|_| list.close(black_box(&initial), &mut table).0 as u64).sum();
+    let [mut third, mut fourth] = [0; 2].map(|_| Lent::new());
+    let mut rest = || third.indexed(&model, &none).rounds as u64;
+    let mut all = || fourth.indexed(&model, &many).rounds as u64;
+    assert_eq!(all(), plain() + rest(), "{name}");
+    let [without, swept, plain, rest, all] =
+        best([&mut without, &mut swept, &mut plain, &mut rest, &mut all]);
+    indexed_row(name, None, (all - rest) / 256.0, plain / 256.0, (swept - without) / 2.0);
+}
+
+fn indexed_check(name: &str, pairs: &[(Vec<u8>, Vec<u8>)]) {
+    let [mut one, mut two] = [0; 2].map(|_| Lent::new());
+    let ours = || pairs.iter().map(|(m, tr)| one.indexed(m, tr).rounds).sum::<usize>() as u64;
+    let theirs = || pairs.iter().map(|(m, tr)| two.library(m, tr).rounds).sum::<usize>() as u64;
+    race(name, ours, theirs);
+}
+
+fn indexed_checks(desk: &Model) {
+    let desk = write_model(desk);
+    for (case, steps) in [("A", &[0][..]), ("B", &[1, 0])] {
+        let pair = (desk.clone(), write_trace(0, steps));
+        indexed_check(&format!("desk model, case {case}"), &[pair]);
+    }
+    let night: Vec<_> = (0..200).map(|i| gen::sound(11, i)).map(|p| (p.model, p.trace)).collect();
+    indexed_check("a night of 200 typical pairs", &night);
+    let [mut one, mut two] = [0; 2].map(|_| Lent::new());
+    let ours = || night.iter().map(|(m, tr)| one.by_size(m, tr).rounds).sum::<usize>() as u64;
+    let theirs = || night.iter().map(|(m, tr)| two.library(m, tr).rounds).sum::<usize>() as u64;
+    race("the same night by the models' sizes, as the command asks", ours, theirs);
+    let full = write_model(&bodies(4_000, 6));
+    for steps in [0, 16, 128] {
+        let pair = (full.clone(), write_trace(0, &vec![0; steps]));
+        indexed_check(&format!("4,000 clauses of 6, {steps} steps"), &[pair]);
+    }
+    longest_pair();
+}
+
+/// The pair that takes the sweeps a minute: a reversed chain of clauses of six, 1,024 steps. They run three of its
+/// states, and the rest is reckoned.
+fn longest_pair() {
+    let clause = |k: u16| Clause { head: k + 6, body: (k..k + 6).collect() };
+    let clauses = (0..4_006).rev().map(clause).collect();
+    let mut model = with(4_096, (0..6).collect(), clauses);
+    model.attacks[0].pos = (0..7).collect();
+    let model = write_model(&model);
+    let [all, few, none] = [1_024, 2, 0].map(|steps| write_trace(0, &vec![0; steps]));
+    let mut lent = Lent::new();
+    let seconds = |ns: f64| ns / 1e9;
+    let by_index = (0..3).map(|_| time(1, || lent.indexed(&model, &all).rounds as u64));
+    let by_index = seconds(by_index.fold(f64::MAX, f64::min));
+    assert_eq!(lent.indexed(&model, &all).rounds, 1_025 * 4_006);
+    let start = seconds(time(1, || lent.library(&model, &none).rounds as u64));
+    let three = seconds(time(1, || lent.library(&model, &few).rounds as u64));
+    let sweeps = start + (three - start) / 2.0 * 1_024.0;
+    println!(
+        "{} bytes, a reversed chain of six, 1,024 steps: {by_index:.3} s, the sweeps some {sweeps:.0} s, {:.0} times",
+        model.len(),
+        sweeps / by_index
+    );
+}
+
+/// Clauses of 16, so many that they have about so many body places; the last has as many as a file can hold.
+fn indexed_growth() {
+    println!("{:>12} {:>12} {:>12} {:>12}", "places", "crossed", "ns", "ns a place");
+    for places in [1_000, 3_000, 10_000, 30_000] {
+        let mut model = bodies(places / 16, 16);
+        (model.rules, model.attacks) = (vec![], vec![]);
+        let places = second::places(&model.clauses);
+        let model = write_model(&model);
+        let (state, mut table) = (state(&model), [0; 4_096]);
+        let mut index = vec![0; places];
+        let mut run = || {
+            let closed = cantivorex::close_indexed(&model, &state, &mut table, &mut index);
+            closed.expect("closed").crossings as u64
+        };
+        let crossed = run();
+        let [ns] = best([&mut run]);
+        println!("{places:12} {crossed:12} {ns:12.0} {:12.2}", ns / places as f64);
     }
 }
 
@@ -77,16 +248,28 @@ fn time(times: u32, mut run: impl FnMut() -> u64) -> f64 {
     begun.elapsed().as_nanos() as f64 / times as f64
 }
 
-/// The three buffers of a check.
+/// The buffers of a check.
 struct Lent {
     state: [u8; 512],
     table: [u16; 4_096],
     names: [u8; 128],
+    index: Vec<u16>,
 }
 
 impl Lent {
     fn new() -> Lent {
-        Lent { state: [0; 512], table: [0; 4_096], names: [0; 128] }
+        let index = vec![0; cantivorex::INDEX_ENTRIES];
+        Lent { state: [0; 512], table: [0; 4_096], names: [0; 128], index }
+    }
+
+    fn indexed(&mut self, model: &[u8], trace: &[u8]) -> cantivorex::Verdict {
+        let Lent { state, table, names, index } = self;
+        cantivorex::check_indexed(model, trace, state, table, names, index)
+    }
+
+    fn by_size(&mut self, model: &[u8], trace: &[u8]) -> cantivorex::Verdict {
+        let (state, table) = (&mut self.state, &mut self.table);
+        cantivorex::check_by_size(model, trace, state, table, &mut self.names, &mut self.index)
     }
 
     fn library(&mut self, model: &[u8], trace: &[u8]) -> cantivorex::Verdict {
@@ -402,6 +585,17 @@ fn closings() -> Vec<(&'static str, Model)> {
     ]
 }
 
+/// Those in which every body place is crossed; as many clauses of six and of sixteen as a file has room for.
+fn full_closings() -> Vec<(&'static str, Model)> {
+    vec![
+        ("chain of 4,000 clauses, file order", chains(4_000, 4_000, false)),
+        ("chain of 4,000 clauses, reversed", chains(4_000, 4_000, true)),
+        ("4,087 clauses of 6, full file", bodies(4_087, 6)),
+        ("1,816 clauses of 16, full file", bodies(1_816, 16)),
+        ("desk model", desk()),
+    ]
+}
+
 fn judgings() -> Vec<(&'static str, Vec<u8>)> {
     vec![
         ("full file of clauses of 1", write_model(&bodies(4_096, 1))),
@@ -432,7 +626,14 @@ fn clingo(name: &str, model: &Model) {
         let done = Command::new("clingo").args(clingo).arg(&path).stdout(Stdio::null()).status();
         done.expect("clingo runs").code().unwrap_or(0) as u64
     };
-    let best = (0..3).map(|_| time(1, &mut run)).fold(f64::MAX, f64::min);
-    println!("{name:58} {best:13.0}");
+    let clingo = (0..3).map(|_| time(1, &mut run)).fold(f64::MAX, f64::min);
+    let model = write_model(model);
+    let (state, mut table, mut index) = (state(&model), [0; 4_096], vec![0; 32_768]);
+    let mut ours = || {
+        let closed = cantivorex::close_indexed(&model, &state, &mut table, &mut index);
+        closed.expect("closed").rounds as u64
+    };
+    let [ours] = best([&mut ours]);
+    println!("{name:58} {clingo:13.0}, {:.0} times the library by an index", clingo / ours);
     std::fs::remove_file(path).expect("clingo's file");
 }

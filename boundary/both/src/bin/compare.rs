@@ -4,7 +4,7 @@
 
 use both::watch;
 use second::gen::{self, Pair, Rng};
-use second::{Tally, Verdict};
+use second::{Indexed, Tally, Verdict};
 use std::path::Path;
 use std::process::exit;
 
@@ -40,7 +40,7 @@ fn child(seed: u64, count: u64, place: &Path) -> i32 {
         place.set(index);
         let pair = gen::pair(seed, index);
         match compare(&pair, seed, index) {
-            Ok(verdict) => tally.add(&pair, &verdict),
+            Ok((verdict, indexed)) => tally.add(&pair, &verdict, &indexed),
             Err(difference) => {
                 println!("pair {index} of seed {seed}: {difference}");
                 answers(&pair, seed, index);
@@ -74,19 +74,24 @@ fn failed(pair: &Pair, index: u64) -> i32 {
     1
 }
 
-/// One pair: a check with and without room for the verdict, closing by itself, three places, and
-/// what the model has.
-fn compare(pair: &Pair, seed: u64, index: u64) -> Result<Verdict, String> {
+/// One pair: a check with and without room for the verdict, closing by itself, both with an index and
+/// without one, three places, and what the model has.
+fn compare(pair: &Pair, seed: u64, index: u64) -> Result<(Verdict, Indexed), String> {
     let Pair { model, trace, state_len, .. } = pair;
     let mut rng = Rng::new(seed ^ 0xC0FFEE, index);
     let (mut state, mut table, mut names) = pair.buffers(seed, index);
+    let mut places = pair.index(seed, index);
     let few = rng.below(cantivorex::VALUES);
-    both::check_short(model, trace, &state, &table, &names, few)?;
-    let mut start = gen::start_state(seed, index, facts(model));
+    both::check_short(model, trace, &state, &table, &names, None, few)?;
+    both::check_short(model, trace, &state, &table, &names, Some(&places), few)?;
+    let mut start = gen::start_for(seed, index, model);
     // Where the pair is to have too short a state, so is this one.
     start.truncate(if *state_len < 512 { *state_len } else { start.len() });
-    let _ = both::close(model, &start, &mut table.clone())?;
-    let verdict = both::check(model, trace, &mut state, &mut table, &mut names)?;
+    let (closed, plain) =
+        both::close_forms(model, &start, &mut table.clone(), &mut places.clone())?;
+    let (with, verdict) =
+        both::check_forms(model, trace, &mut state, &mut table, &mut names, &mut places)?;
+    let indexed = Indexed { number: with.number, closed, plain };
     for _ in 0..3 {
         let mark = [0, 0, 1, 1, 2, rng.draw() as u8][rng.below(6)];
         let file = if mark == 1 { trace } else { model };
@@ -95,12 +100,7 @@ fn compare(pair: &Pair, seed: u64, index: u64) -> Result<Verdict, String> {
         both::part(model, trace, mark, start, size, room)?;
     }
     let _ = both::count(model, rng.below(cantivorex::FIGURES))?;
-    Ok(verdict)
-}
-
-/// F as the file has it, at most 4,096; a starting state is made for so many facts.
-fn facts(model: &[u8]) -> usize {
-    model.get(5..7).map_or(6, |two| u16::from_be_bytes([two[0], two[1]]).min(4_096) as usize)
+    Ok((verdict, indexed))
 }
 
 /// A place in a file, at its end, or far beyond.
@@ -116,6 +116,10 @@ fn answers(pair: &Pair, seed: u64, index: u64) {
     let ours = cantivorex::check(model, trace, &mut state, &mut table, &mut names);
     let theirs = second::check(model, trace, &mut state, &mut table, &mut names);
     println!("library {ours:?}\nsecond  {theirs:?}");
+    let mut places = pair.index(seed, index);
+    let ours =
+        cantivorex::check_indexed(model, trace, &mut state, &mut table, &mut names, &mut places);
+    println!("library {ours:?} with an index of {}", places.len());
     println!("library {:?}", cantivorex::count(model));
     println!("second  {:?}", second::count_api(model));
 }

@@ -6,7 +6,7 @@
 int main(void)
 {
     static uint8_t state[512], part[4], names[128];
-    static uint16_t table[4096], index[3];
+    static uint16_t table[4096], index[3], list[3];
     static const uint8_t file[5] = {1, 0, 0, 0, 0};
     /* 5 facts; clauses 0, 1 and 2 from nothing; two rules and one attack state without conditions */
     static const uint8_t model[] = {1, 0, 0, 0, 2, 0, 5, 0, 0, 0, 0, 0, 0, 0, 12, 0, 2, 0, 0, 0, 2, 0, 1, 0, 2, 0, 2,
@@ -24,6 +24,7 @@ int main(void)
     memset(table, JUNK, sizeof table);
     memset(names, JUNK, sizeof names);
     memset(index, JUNK, sizeof index);
+    memset(list, JUNK, sizeof list);
     memset(out, JUNK, sizeof out);
     /* No room for the verdict: nothing is changed, `out` included. */
     expect("no out",
@@ -66,6 +67,54 @@ int main(void)
         CANTIVOREX_FACT);
     expect("all null to close by an index",
         cantivorex_safe_close_indexed(NULL, 5, NULL, 512, NULL, 4096, NULL, 3, NULL, 10), CANTIVOREX_ROOM);
+    /* The model has two rules and no body place. */
+    expect("no out for rules",
+        cantivorex_safe_rules(
+            model, sizeof model, trace, 7, state, 512, table, 4096, names, 128, index, 3, list, 3, NULL, 1),
+        CANTIVOREX_ROOM);
+    expect("an out of no entries for rules",
+        cantivorex_safe_rules(
+            model, sizeof model, trace, 7, state, 512, table, 4096, names, 128, index, 3, list, 3, out, 0),
+        CANTIVOREX_ROOM);
+    expect("no list",
+        cantivorex_safe_rules(
+            model, sizeof model, trace, 7, state, 512, table, 4096, names, 128, index, 3, NULL, 3, out, 10),
+        CANTIVOREX_ROOM);
+    expect("a list of one entry",
+        cantivorex_safe_rules(
+            model, sizeof model, trace, 7, state, 512, table, 4096, names, 128, index, 3, list, 1, out, 10),
+        CANTIVOREX_ROOM);
+    expect("no list, before the trace's section",
+        cantivorex_safe_rules(
+            model, sizeof model, file, 5, state, 512, table, 4096, names, 128, index, 3, NULL, 3, out, 10),
+        CANTIVOREX_ROOM);
+    expect("no list and half a model",
+        cantivorex_safe_rules(
+            model, sizeof model - 1, trace, 7, state, 512, table, 4096, names, 128, index, 3, NULL, 3, out, 10),
+        CANTIVOREX_SHAPE);
+    expect("no list and no trace",
+        cantivorex_safe_rules(
+            model, sizeof model, NULL, 7, state, 512, table, 4096, names, 128, index, 3, NULL, 3, out, 10),
+        CANTIVOREX_VERSION);
+    expect("no index for rules",
+        cantivorex_safe_rules(
+            placed, sizeof placed, trace, 7, state, 512, table, 4096, names, 128, NULL, 3, list, 3, out, 10),
+        CANTIVOREX_ROOM);
+    expect("no model's rules",
+        cantivorex_safe_rules(NULL, 5, trace, 7, state, 512, table, 4096, names, 128, index, 3, list, 3, out, 10),
+        CANTIVOREX_VERSION);
+    expect("no state for rules",
+        cantivorex_safe_rules(NULL, 5, trace, 7, NULL, 512, table, 4096, names, 128, index, 3, list, 3, out, 10),
+        CANTIVOREX_ROOM);
+    expect("no table for rules",
+        cantivorex_safe_rules(NULL, 5, trace, 7, state, 512, NULL, 4096, names, 128, index, 3, list, 3, out, 10),
+        CANTIVOREX_ROOM);
+    expect("127 bytes for names and rules",
+        cantivorex_safe_rules(NULL, 5, trace, 7, state, 512, table, 4096, names, 127, index, 3, list, 3, out, 10),
+        CANTIVOREX_ROOM);
+    expect("all null for rules",
+        cantivorex_safe_rules(NULL, 9, NULL, 9, NULL, 512, NULL, 4096, NULL, 128, NULL, 3, NULL, 3, NULL, 1),
+        CANTIVOREX_ROOM);
     expect("no out to count", cantivorex_safe_count(model, sizeof model, NULL, 4), CANTIVOREX_ROOM);
     expect("a short out to count", cantivorex_safe_count(model, sizeof model, out, 3), CANTIVOREX_ROOM);
     expect("all null to count", cantivorex_safe_count(NULL, 5, NULL, 4), CANTIVOREX_ROOM);
@@ -77,6 +126,7 @@ int main(void)
     expect("nothing written", all(state, sizeof state, JUNK) && all(table, sizeof table, JUNK), 1);
     expect("no name written", all(names, sizeof names, JUNK), 1);
     expect("no place written", all(index, sizeof index, JUNK), 1);
+    expect("no rule written", all(list, sizeof list, JUNK), 1);
     expect("nothing written out", all(out, sizeof out, JUNK) && all(part, sizeof part, JUNK), 1);
     /* A part is copied as far as there is room. */
     expect("no room for a part", cantivorex_safe_part(file, 5, NULL, 0, 0, 0, SIZE_MAX, NULL, 4), 5);
@@ -139,5 +189,22 @@ int main(void)
     expect("its rounds", out[CANTIVOREX_CLOSED_ROUNDS], 1);
     expect("its crossings", out[CANTIVOREX_CLOSED_CROSSINGS], 0);
     expect("nothing after them", all(out + CANTIVOREX_CLOSED_ENTRIES, 8 * sizeof *out, JUNK), 1);
+    /* Nor does one without a rule need a list. */
+    memset(out, JUNK, sizeof out);
+    expect("no list needed",
+        cantivorex_safe_rules(
+            placed, sizeof placed, trace, 7, state, 512, table, 4096, names, 128, index, 3, NULL, 3, out, 10),
+        0);
+    expect("no rule", out[0], 0);
+    expect("its place", index[0], 0);
+    expect("both its rules fire",
+        cantivorex_safe_rules(
+            model, sizeof model, trace, 7, state, 512, table, 4096, names, 128, NULL, 3, list, 2, out, 10),
+        0);
+    expect("they are two", out[0], 2);
+    expect("the first", list[0], 0);
+    expect("the second", list[1], 1);
+    expect("no entry after them", all(list + 2, sizeof *list, JUNK), 1);
+    expect("nothing after how many", all(out + 1, 9 * sizeof *out, JUNK), 1);
     return summary();
 }

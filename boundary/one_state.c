@@ -1,6 +1,6 @@
 /* One state buffer, one for names and one for an index, used again and again and longer than they have to be: a step
    that does not fire at the end of a trace leaves the state before it, and what lies beyond the bytes of a state stays.
-   With an index and without one. */
+   With an index and without one, and where the rules are listed that fire there. */
 #include "../include/cantivorex.h"
 #include "expect.h"
 #include <string.h>
@@ -18,21 +18,22 @@ static const uint8_t model[] = {
     0, 0, 0, 6, 0, 4, 0, 0, 0, 0,                  /* attack state 0: no conditions */
 };
 
-/* No facts; names 5 and 1,023 are in use. Rule 0 makes 3 and 8, rule 1 makes 4 and 5. */
+/* No facts; names 5 and 1,023 are in use. Rule 0 makes 3 and 8, rule 1 makes 4 and 5, rule 2 makes 4. */
 static const uint8_t minting[] = {
     3,
     0, 0, 0, 2, 0, 16,                             /* 16 facts */
     0, 0, 0, 0, 0, 0, 0, 0,                        /* none is initial, none persistent */
     0, 0, 0, 4, 0, 5, 3, 0xFF,                     /* names 5 and 1,023 */
     0, 0, 0, 0,                                    /* no clause */
-    0, 0, 0, 28,
+    0, 0, 0, 40,
     0, 12, 0, 0, 0, 0, 0, 0, 0, 2, 0, 3, 0, 8,     /* rule 0: makes 3 and 8 */
     0, 12, 0, 0, 0, 0, 0, 0, 0, 2, 0, 4, 0, 5,     /* rule 1: makes 4, and 5, which is used */
+    0, 10, 0, 0, 0, 0, 0, 0, 0, 1, 0, 4,           /* rule 2: makes 4 */
     0, 0, 0, 6, 0, 4, 0, 0, 0, 0,                  /* attack state 0: no conditions */
 };
 
 static uint8_t state[700], names[200];
-static uint16_t table[5000], places[9];
+static uint16_t table[5000], places[9], list[9];
 
 static void check(
     const uint8_t *file, size_t len, const uint8_t *trace, size_t trace_len, int indexed, uint64_t *out)
@@ -43,6 +44,36 @@ static void check(
     else
         cantivorex_safe_check(file, len, trace, trace_len, state, sizeof state, table, 5000, names, sizeof names, out,
             CANTIVOREX_OUT_ENTRIES);
+}
+
+/* The rules that fire after rule 0 and another that does not, in the same buffers: the one named, if any. The state is
+   left as it is, since it is the one that the check left. */
+static void fires(const uint8_t *file, size_t len, const uint8_t *trace, size_t trace_len, size_t rules, int only)
+{
+    uint64_t out[2] = {JUNK, JUNK};
+    uint8_t before[sizeof state], used[sizeof names];
+    uint16_t rounds[5000];
+    memcpy(before, state, sizeof state);
+    memcpy(used, names, sizeof names);
+    memcpy(rounds, table, sizeof table);
+    memset(list, JUNK, sizeof list);
+    expect("a list that is too short",
+        cantivorex_safe_rules(file, len, trace, trace_len, state, sizeof state, table, 5000, names, sizeof names,
+            places, 9, list, rules - 1, out, 2),
+        CANTIVOREX_ROOM);
+    expect("nothing is listed", all(list, sizeof list, JUNK) && out[0] == JUNK, 1);
+    expect("a list that is long enough",
+        cantivorex_safe_rules(file, len, trace, trace_len, state, sizeof state, table, 5000, names, sizeof names,
+            places, 9, list, rules, out, 2),
+        0);
+    expect("how many fire", out[0], only >= 0);
+    expect("nothing else", out[1], JUNK);
+    if (only >= 0)
+        expect("the one that fires", list[0], (uint64_t)only);
+    expect("the entries beyond it stay", all(list + out[0], sizeof list - out[0] * sizeof *list, JUNK), 1);
+    expect("the same state", memcmp(before, state, sizeof state), 0);
+    expect("the same names", memcmp(used, names, sizeof names), 0);
+    expect("the same rounds", memcmp(rounds, table, sizeof table), 0);
 }
 
 /* Rule 0 and then another: blocked at step 1, by a fact of a kind. */
@@ -71,6 +102,8 @@ static void blocked_by(uint8_t rule, uint64_t fact, uint64_t kind, uint64_t roun
     expect("the bytes beyond the names stay", all(names + 128, sizeof names - 128, JUNK), 1);
     expect("the clause of the one body place", places[0], indexed ? 0 : JUNK << 8 | JUNK);
     expect("the entries beyond it stay", all(places + 1, sizeof places - 2, JUNK), 1);
+    /* Rule 0 took its own fact, and both others lack one or have one in the way. */
+    fires(model, sizeof model, trace, sizeof trace, 3, -1);
 }
 
 /* Rule 0 and then another, which makes a name that is used. What an earlier check used says nothing. */
@@ -96,6 +129,8 @@ static void used_by(uint8_t rule, uint64_t name, int indexed)
     expect("the names before the step", memcmp(names, before, sizeof before), 0);
     expect("the bytes beyond the names stay", all(names + 128, sizeof names - 128, JUNK), 1);
     expect("no body place", all(places, sizeof places, JUNK), 1);
+    /* Rule 2 alone makes a name that is unused. */
+    fires(minting, sizeof minting, trace, sizeof trace, 3, 2);
 }
 
 int main(void)

@@ -22,7 +22,7 @@ struct file {
 
 static struct file model, trace;
 static uint8_t state[CANTIVOREX_STATE_BYTES], names[CANTIVOREX_NAMES_BYTES], part[65537];
-static uint16_t table[CANTIVOREX_TABLE_ENTRIES], places[CANTIVOREX_INDEX_ENTRIES];
+static uint16_t table[CANTIVOREX_TABLE_ENTRIES], places[CANTIVOREX_INDEX_ENTRIES], firing[CANTIVOREX_LIST_ENTRIES];
 static uint64_t out[CANTIVOREX_OUT_ENTRIES];
 
 /* What a pair of files is made of, and what the check and the closing answer; the count answers as the closing. A model
@@ -222,7 +222,8 @@ static const struct pair pairs[] = {
 };
 
 static uint8_t answer;
-static size_t room = sizeof state, figures = CANTIVOREX_HAS_ENTRIES, entries = CANTIVOREX_INDEX_ENTRIES;
+static size_t room = sizeof state, figures = CANTIVOREX_HAS_ENTRIES, entries = CANTIVOREX_INDEX_ENTRIES,
+              listed = CANTIVOREX_LIST_ENTRIES;
 
 static void nothing(void)
 {
@@ -250,6 +251,12 @@ static void check_it_indexed(void)
 {
     answer = cantivorex_check_indexed(model.bytes, model.len, trace.bytes, trace.len, state, room, table,
         CANTIVOREX_TABLE_ENTRIES, names, sizeof names, places, entries, out, CANTIVOREX_OUT_ENTRIES);
+}
+
+static void rules_of_it(void)
+{
+    answer = cantivorex_rules(model.bytes, model.len, trace.bytes, trace.len, state, room, table,
+        CANTIVOREX_TABLE_ENTRIES, names, sizeof names, places, entries, firing, listed, out, CANTIVOREX_OUT_ENTRIES);
 }
 
 static void count_it(void)
@@ -283,7 +290,7 @@ static size_t depth(void (*run)(void))
 }
 
 /* The deepest of each function so far. */
-static size_t check_most, close_most, count_most, part_most, check_indexed_most, close_indexed_most;
+static size_t check_most, close_most, count_most, part_most, check_indexed_most, close_indexed_most, rules_most;
 
 static void keep_most(size_t *most, size_t taken)
 {
@@ -291,7 +298,7 @@ static void keep_most(size_t *most, size_t taken)
         *most = taken;
 }
 
-/* One row: all six functions on the files as they are. */
+/* One row: all seven functions on the files as they are. A run that ends is no refusal where rules are listed. */
 static void measure(const char *name, uint64_t check, uint64_t close)
 {
     size_t empty = depth(nothing);
@@ -308,14 +315,19 @@ static void measure(const char *name, uint64_t check, uint64_t close)
     size_t placing = depth(part_of_it) - empty;
     size_t checking_indexed = depth(check_it_indexed) - empty;
     expect("the check's answer by an index", answer, check);
-    printf("%-34s %2llu %7zu %7zu %7zu %7zu %7zu %7zu\n", name, (unsigned long long)check, checking, closing, counting,
-        placing, checking_indexed, closing_indexed);
+    size_t listing = depth(rules_of_it) - empty;
+    int is_run = check == CANTIVOREX_ATTACK || check == CANTIVOREX_BLOCKED || check == CANTIVOREX_NOATTACK ||
+        check == CANTIVOREX_USED;
+    expect("the list's answer", answer, is_run ? 0 : check);
+    printf("%-34s %2llu %7zu %7zu %7zu %7zu %7zu %7zu %7zu\n", name, (unsigned long long)check, checking, closing,
+        counting, placing, checking_indexed, closing_indexed, listing);
     keep_most(&check_most, checking);
     keep_most(&close_most, closing);
     keep_most(&count_most, counting);
     keep_most(&part_most, placing);
     keep_most(&check_indexed_most, checking_indexed);
     keep_most(&close_indexed_most, closing_indexed);
+    keep_most(&rules_most, listing);
 }
 
 static void limit(const char *name, size_t most, size_t allowed)
@@ -326,8 +338,8 @@ static void limit(const char *name, size_t most, size_t allowed)
 
 int main(void)
 {
-    printf("%-34s %2s %7s %7s %7s %7s %15s\n", "bytes of stack", "", "check", "close", "count", "part",
-        "both by an index");
+    printf("%-34s %2s %7s %7s %7s %7s %15s %7s\n", "bytes of stack", "", "check", "close", "count", "part",
+        "both by an index", "rules");
     for (size_t i = 0; i < sizeof pairs / sizeof *pairs; i++) {
         write_model(&pairs[i]);
         write_trace(&pairs[i]);
@@ -345,7 +357,13 @@ int main(void)
     expect("a check with too short an index", answer, CANTIVOREX_ROOM);
     keep_most(&close_indexed_most, depth(close_it_indexed) - empty);
     expect("closing by too short an index", answer, CANTIVOREX_ROOM);
+    keep_most(&rules_most, depth(rules_of_it) - empty);
+    expect("rules with too short an index", answer, CANTIVOREX_ROOM);
     entries = CANTIVOREX_INDEX_ENTRIES;
+    listed = 3;
+    keep_most(&rules_most, depth(rules_of_it) - empty);
+    expect("a list shorter than four rules", answer, CANTIVOREX_ROOM);
+    listed = CANTIVOREX_LIST_ENTRIES;
     room = sizeof state - 1;
     figures = CANTIVOREX_HAS_ENTRIES - 1;
     measure("511 bytes for a state, 3 figures", CANTIVOREX_ROOM, CANTIVOREX_ROOM);
@@ -355,5 +373,6 @@ int main(void)
     limit("cantivorex_part", part_most, PART_LIMIT);
     limit("cantivorex_check_indexed", check_indexed_most, INDEXED_LIMIT);
     limit("cantivorex_close_indexed", close_indexed_most, INDEXED_LIMIT);
+    limit("cantivorex_rules", rules_most, INDEXED_LIMIT);
     return summary();
 }

@@ -2,18 +2,18 @@
  *
  * Everything is lent: the library keeps no pointer, frees nothing and allocates nothing, and each call stands by
  * itself, so that calls on different buffers may run at the same time. A file is any bytes at all; nothing in one can
- * make a call crash or loop. What a call may write (state, table, names, index, out) must overlap no other area of
- * the same call.
+ * make a call crash or loop. What a call may write (state, table, names, index, list, out) must overlap no other area
+ * of the same call.
  *
  * The functions at the bottom, `cantivorex_safe_..`, are the ones to call: they take a null pointer as an area of
- * length 0. The six above them are what the library has, each area as a pointer that is not null and a length.
+ * length 0. The seven above them are what the library has, each area as a pointer that is not null and a length.
  *
  * Check and closing have two forms. The one without an index is for a small board: it reads all clauses again in each
  * round. The one that is lent an index is for all others: it looks at each body fact of each clause once for a state,
  * so that a long chain of clauses takes no longer than the same clauses side by side. Both give the same answers.
  *
  * Stack: at most 1,082 bytes for cantivorex_check, 477 for cantivorex_close, 442 for cantivorex_count and 44 for
- * cantivorex_part; 32,768 for the two forms with an index. boundary/stack.c measures it.
+ * cantivorex_part; 32,768 for the two forms with an index and for cantivorex_rules. boundary/stack.c measures it.
  */
 #ifndef CANTIVOREX_H
 #define CANTIVOREX_H
@@ -28,7 +28,7 @@ extern "C" {
 /* The verdict's numbers. */
 enum {
     CANTIVOREX_ATTACK = 0,    /* accepted */
-    CANTIVOREX_ROOM = 1,      /* a buffer is too short; state, table, names and index stay */
+    CANTIVOREX_ROOM = 1,      /* a buffer is too short; state, table, names, index and list stay */
     CANTIVOREX_LONG = 2,      /* a file is over its size: 65,536 bytes for a model, 4,096 for a trace */
     CANTIVOREX_VERSION = 3,   /* a file is empty, or its first byte is no version: 1 to 4 of a model, 1 of a trace */
     CANTIVOREX_SHAPE = 4,     /* a length or count does not fit, something is too short, bytes are left over */
@@ -50,7 +50,8 @@ enum {
     CANTIVOREX_TABLE_ENTRIES = 4096,
     CANTIVOREX_NAMES_BYTES = 128,
     CANTIVOREX_INDEX_ENTRIES = 32768, /* enough for every model: an index needs an entry for each of its body places */
-    CANTIVOREX_OUT_ENTRIES = 10,      /* of a check; closing needs one */
+    CANTIVOREX_LIST_ENTRIES = 2048,   /* enough for every model: a list of rules needs an entry for each of its rules */
+    CANTIVOREX_OUT_ENTRIES = 10,      /* of a check; closing needs one, and so does a list of rules */
     CANTIVOREX_CLOSED_ENTRIES = 2,    /* of closing with an index */
     CANTIVOREX_HAS_ENTRIES = 4        /* of a count */
 };
@@ -125,6 +126,17 @@ uint8_t cantivorex_check_indexed(const uint8_t *model, size_t model_len, const u
 uint8_t cantivorex_close_indexed(const uint8_t *model, size_t model_len, const uint8_t *state, size_t state_len,
     uint16_t *table, size_t table_len, uint16_t *index, size_t index_len, uint64_t *out, size_t out_len);
 
+/* Every rule that can fire in the last state that a trace reaches; where a step does not fire that is the state before
+ * it. Answers 0, writes how many they are to out[0] and their numbers, ascending, to the front of `list`, and leaves
+ * state, table, names and index as cantivorex_check_indexed does, whose 10, 11 and 13 are no refusals here: the goal
+ * says nothing once there is one. What lies beyond stays, the entries of `list` after the answer too. Otherwise it
+ * answers 1 to 9, 12 or 17 and changes nothing. 1 is also for a `list` with fewer entries than the model has rules,
+ * even if the answer would fit, in the same place as for an index: right after the model's own numbers. With an `out`
+ * of no entries the answer is 1. */
+uint8_t cantivorex_rules(const uint8_t *model, size_t model_len, const uint8_t *trace, size_t trace_len,
+    uint8_t *state, size_t state_len, uint16_t *table, size_t table_len, uint8_t *names, size_t names_len,
+    uint16_t *index, size_t index_len, uint16_t *list, size_t list_len, uint64_t *out, size_t out_len);
+
 /* What a model has: answers 0 and writes how many facts, clauses, rules and goals to the front of `out`. Otherwise it
  * answers 2 to 7, 12 or 17 for the model and changes nothing. With an `out` of fewer than 4 entries the answer is 1. */
 uint8_t cantivorex_count(const uint8_t *model, size_t model_len, uint64_t *out, size_t out_len);
@@ -135,7 +147,7 @@ uint8_t cantivorex_count(const uint8_t *model, size_t model_len, uint64_t *out, 
 size_t cantivorex_part(const uint8_t *model, size_t model_len, const uint8_t *trace, size_t trace_len, uint8_t mark,
     size_t start, size_t size, uint8_t *out, size_t out_len);
 
-/* The same six, with a null pointer as an area of length 0: a null file is an empty one (VERSION), a null buffer one
+/* The same seven, with a null pointer as an area of length 0: a null file is an empty one (VERSION), a null buffer one
  * without room (ROOM). */
 static inline uint8_t cantivorex_safe_check(const uint8_t *model, size_t model_len, const uint8_t *trace,
     size_t trace_len, uint8_t *state, size_t state_len, uint16_t *table, size_t table_len, uint8_t *names,
@@ -177,6 +189,20 @@ static inline uint8_t cantivorex_safe_close_indexed(const uint8_t *model, size_t
     return cantivorex_close_indexed(model ? model : (const uint8_t *)&nothing, model ? model_len : 0,
         state ? state : (const uint8_t *)&nothing, state ? state_len : 0, table ? table : (uint16_t *)&nothing,
         table ? table_len : 0, index ? index : (uint16_t *)&nothing, index ? index_len : 0, out ? out : &nothing,
+        out ? out_len : 0);
+}
+
+static inline uint8_t cantivorex_safe_rules(const uint8_t *model, size_t model_len, const uint8_t *trace,
+    size_t trace_len, uint8_t *state, size_t state_len, uint16_t *table, size_t table_len, uint8_t *names,
+    size_t names_len, uint16_t *index, size_t index_len, uint16_t *list, size_t list_len, uint64_t *out,
+    size_t out_len)
+{
+    uint64_t nothing = 0;
+    return cantivorex_rules(model ? model : (const uint8_t *)&nothing, model ? model_len : 0,
+        trace ? trace : (const uint8_t *)&nothing, trace ? trace_len : 0, state ? state : (uint8_t *)&nothing,
+        state ? state_len : 0, table ? table : (uint16_t *)&nothing, table ? table_len : 0,
+        names ? names : (uint8_t *)&nothing, names ? names_len : 0, index ? index : (uint16_t *)&nothing,
+        index ? index_len : 0, list ? list : (uint16_t *)&nothing, list ? list_len : 0, out ? out : &nothing,
         out ? out_len : 0);
 }
 

@@ -395,13 +395,13 @@ test_help() {
     local word
     try --help
     same 'help: exit' 0 "$status"
-    for word in check count night show; do
+    for word in check count night rules show; do
         has "help names $word" "$word" "$out"
         same "help $word" "$("$command" "$word" --help)" "$("$command" help "$word")"
         has "help $word has an example" "Example" "$("$command" "$word" -h)"
     done
     same 'help fits a terminal' '' \
-        "$(for word in '' check count night show; do "$command" $word --help; done | grep -E '.{81}')"
+        "$(for word in '' check count night rules show; do "$command" $word --help; done | grep -E '.{81}')"
     try --version
     same 'the version' "cantivorex 0.1.0 library $(sha256sum "$root/target/staticlib/libexports.a" | head -c 16)" "$out"
 }
@@ -544,6 +544,72 @@ it has no goal, so that no trace can be checked with it" "$out"
 ends() {
     try count "$desk" "$root/samples/$1.trace"
     same "how case $1 ends" "$2" "$(tail -n 2 <<<"$out" | head -n 1)"
+}
+
+# rules CASE LINES: what can fire after a trace of the desk model.
+rules() {
+    try rules "$desk" "$root/samples/$1.trace"
+    same "the rules after case $1" "$2" "$out$err"
+    same "the rules after case $1: exit" 0 "$status"
+}
+
+# What a rule would take away is stored; 5 is derived at first, and so is no part of it.
+test_rules() {
+    local all='  rule 0 sign: adds 3 frozen
+  rule 1 dismiss: takes away 0 clerk(ana)
+  rule 2 look: takes away 1 open(form); adds 1 open(form)'
+    rules A "state 1, after step 0, rule 0 sign: 2 of 3 rules can fire
+${all#*$'\n'}"
+    rules B "state 1, after step 0, rule 1 dismiss: 1 of 3 rules can fire
+  rule 2 look: takes away 1 open(form); adds 1 open(form)
+BLOCKED: step 1, rule 0 sign, can't fire: fact 5 edits(ben) is missing"
+    rules C "state 1, after step 0, rule 0 sign: 2 of 3 rules can fire
+${all#*$'\n'}
+BLOCKED: step 1, rule 0 sign, can't fire: fact 3 frozen is in the way, since it is stored"
+    rules E "state 0, the initial one: 3 of 3 rules can fire
+$all"
+    try rules "$desk" "$root/samples/G.trace"
+    says 'the rules after a refused trace' 1 "NAME: the trace '$root/samples/G.trace', bytes 5 to 6 (00 02), the goal"
+    try rules "$root/samples/A.trace" "$desk"
+    says 'the rules of no model' 1 'are the two files swapped?'
+    try rules "$desk"
+    says 'the rules without a trace' 2 'usage: cantivorex rules MODEL TRACE'
+    try rules "$desk" "$tmp/none.trace"
+    says 'the rules after no trace' 2 "there is no file '$tmp/none.trace'"
+    try rules "$root/samples/tasks/tasks.model" "$root/samples/tasks/denied-by-duty.trace"
+    same 'the rules after a derived denial' \
+        "BLOCKED: step 4, rule 7 grant(post,ana), can't fire: $(
+        )fact 29 denied(task(post,1,loan),ana) is in the way since round 1" "${out##*$'\n'}"
+    # Facts 0 and 1 are stored, and 1 is persistent; the rule needs both.
+    bytes '02 00000002 0002 00000004 0000 0001 00000002 0001 00000000 0000000C 000A 0002 0000 0001 0000 0000
+        00000006 0004 0000 0000' >"$tmp/m.model"
+    bytes '01 00000002 0000' >"$tmp/t.trace"
+    try rules "$tmp/m.model" "$tmp/t.trace"
+    same 'what is persistent stays' 'state 0, the initial one: 1 of 1 rule can fire
+  rule 0: takes away 0' "$out$err"
+    # Names: 5 is in use at the start, 7 and 1,023 are made by rule 0.
+    bytes "$two_facts" >"$tmp/f.model"
+    printf 'fact 0 open\nname 7 nonce1\nname 5 old\nrule 2 wait\n' >"$tmp/f.names"
+    try rules "$tmp/f.model" "$tmp/t.trace"
+    same 'what would be made' 'state 0, the initial one: 2 of 4 rules can fire
+  rule 0: takes away 0 open; adds 0 open; makes 7 nonce1, 1023
+  rule 2 wait: changes nothing' "$out$err"
+    bytes '01 00000008 0000 0002 0000 0000' >"$tmp/t.trace"
+    try rules "$tmp/f.model" "$tmp/t.trace"
+    same 'after a used name' "state 2, after step 1, rule 0: 1 of 4 rules can fire
+  rule 2 wait: changes nothing
+USED: step 2, rule 0, can't fire: name 7 nonce1 is in use" "$out$err"
+    # As many rules as there may be, without a condition.
+    { bytes '01 00000002 0000 00000000 00000000 00004000'; bytes "$(repeat 2048 '0006 0000 0000 0000')"
+        bytes '00000006 0004 0000 0000'; } >"$tmp/m.model"
+    bytes '01 00000002 0000' >"$tmp/t.trace"
+    try rules "$tmp/m.model" "$tmp/t.trace"
+    same '2,048 rules' 'state 0, the initial one: 2048 of 2048 rules can fire' "${out%%$'\n'*}"
+    same '2,048 rules: the last' '  rule 2047: changes nothing' "${out##*$'\n'}"
+    same '2,048 rules: the lines' 2049 "$(wc -l <<<"$out")"
+    bytes '01 00000002 0001 00000000 00000000 00000000 00000006 0004 0000 0000' >"$tmp/m.model"
+    try rules "$tmp/m.model" "$tmp/t.trace"
+    same 'no rule' 'state 0, the initial one: 0 of 0 rules can fire' "$out$err"
 }
 
 # Document 003's Table 2: what holds at first, and what is gone after the first rule for a.
@@ -1159,6 +1225,7 @@ test_exit_verdict
 test_files
 test_lost_output
 test_show_and_count
+test_rules
 test_table2
 test_tasks
 test_mandate

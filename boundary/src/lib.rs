@@ -8,6 +8,9 @@ pub const NAMES_BYTES: usize = 128;
 /// Enough for the index of every model; it needs an entry for each body place.
 pub const INDEX_ENTRIES: usize = 32_768;
 
+/// Enough for the rules of every model; a list of rules needs an entry for each.
+pub const LIST_ENTRIES: usize = 2_048;
+
 /// How many values a verdict has.
 pub const VALUES: usize = 10;
 
@@ -90,6 +93,24 @@ extern "C" {
         table_len: usize,
         index: *mut u16,
         index_len: usize,
+        out: *mut u64,
+        out_len: usize,
+    ) -> u8;
+    fn cantivorex_rules(
+        model: *const u8,
+        model_len: usize,
+        trace: *const u8,
+        trace_len: usize,
+        state: *mut u8,
+        state_len: usize,
+        table: *mut u16,
+        table_len: usize,
+        names: *mut u8,
+        names_len: usize,
+        index: *mut u16,
+        index_len: usize,
+        list: *mut u16,
+        list_len: usize,
         out: *mut u64,
         out_len: usize,
     ) -> u8;
@@ -329,6 +350,57 @@ pub fn close_indexed_into(
             table.len(),
             index.as_mut_ptr(),
             index.len(),
+            out.as_mut_ptr(),
+            out.len(),
+        )
+    }
+}
+
+/// How many rules fire in the last state that a trace reaches, their numbers being at the front of the list, or the
+/// refusal's number with nothing changed. ROOM where the list has fewer entries than the model has rules.
+pub fn rules(
+    model: &[u8],
+    trace: &[u8],
+    state: &mut [u8],
+    table: &mut [u16],
+    names: &mut [u8],
+    index: &mut [u16],
+    list: &mut [u16],
+) -> Result<usize, u8> {
+    let mut out = [0];
+    match rules_into(model, trace, state, table, names, index, list, &mut out) {
+        0 => Ok(out[0] as usize),
+        number => Err(number),
+    }
+}
+
+/// The same as the library has it: 0 and how many they are in the first entry of `out`, or the refusal's number.
+pub fn rules_into(
+    model: &[u8],
+    trace: &[u8],
+    state: &mut [u8],
+    table: &mut [u16],
+    names: &mut [u8],
+    index: &mut [u16],
+    list: &mut [u16],
+    out: &mut [u64],
+) -> u8 {
+    unsafe {
+        cantivorex_rules(
+            model.as_ptr(),
+            model.len(),
+            trace.as_ptr(),
+            trace.len(),
+            state.as_mut_ptr(),
+            state.len(),
+            table.as_mut_ptr(),
+            table.len(),
+            names.as_mut_ptr(),
+            names.len(),
+            index.as_mut_ptr(),
+            index.len(),
+            list.as_mut_ptr(),
+            list.len(),
             out.as_mut_ptr(),
             out.len(),
         )

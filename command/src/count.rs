@@ -3,7 +3,7 @@
 //! whether a formula is true is its verdict on that prefix with the formula as the goal.
 
 use crate::args::{Args, Known};
-use crate::endings::ending;
+use crate::endings::{ending, heading};
 use crate::failure::{unanswered, Failure};
 use crate::files::Pair;
 use crate::judge::{self, is_refusal, Counts, Judged};
@@ -125,16 +125,8 @@ impl Report<'_> {
         let mut before = None;
         for count in 0..=last.verdict.step {
             let prefix = layout::trace(goal, &steps[..count]);
-            let heading = match count {
-                0 => "state 0, the initial one".to_string(),
-                _ => format!(
-                    "state {count}, after step {}, rule {}",
-                    count - 1,
-                    self.names.rule(steps[count - 1])
-                ),
-            };
             let judged = judge::check(&self.pair.model, &prefix);
-            self.state(&heading, &judged)?;
+            self.state(&heading(count, steps, self.names), &judged)?;
             self.in_use(&judged, before.as_ref())?;
             self.truths(goal, &steps[..count], &judged)?;
             before = Some(judged);

@@ -1,5 +1,5 @@
-//! How a run ends, in words: which condition, of which rule or goal, is missing or in the way, which name is in use, or
-//! whether the goal's formula is true.
+//! How a state is reached, and how a run ends, in words: which condition, of which rule or goal, is missing or in the
+//! way, which name is in use, or whether the goal's formula is true.
 
 use crate::formulas::Formula;
 use crate::judge;
@@ -41,6 +41,16 @@ pub fn ending(
         }
     };
     format!("{}: {found}", judge::name(verdict))
+}
+
+/// The state after so many steps.
+pub fn heading(count: usize, steps: &[usize], names: &Names) -> String {
+    match count.checked_sub(1) {
+        None => "state 0, the initial one".to_string(),
+        Some(step) => {
+            format!("state {count}, after step {step}, rule {}", names.rule(steps[step]))
+        }
+    }
 }
 
 fn stopped(step: usize, steps: &[usize], names: &Names) -> String {

@@ -1,9 +1,11 @@
-//! The one place where the library is asked: a check in buffers of its own, with what it leaves in them, and what a
-//! model has.
+//! The one place where the library is asked: a check in buffers of its own, with what it leaves in them, the rules that
+//! can fire there, and what a model has.
 
 use crate::layout;
 pub use library::Counts;
-use library::{Verdict, INDEX_ENTRIES, NAMES_BYTES, NONE, STATE_BYTES, TABLE_ENTRIES};
+use library::{
+    Verdict, INDEX_ENTRIES, LIST_ENTRIES, NAMES_BYTES, NONE, STATE_BYTES, TABLE_ENTRIES,
+};
 use std::cell::RefCell;
 
 /// The refusal of a trace that has no fault in its bytes.
@@ -32,6 +34,18 @@ pub fn check(model: &[u8], trace: &[u8]) -> Judged {
         library::check_by_size(model, trace, &mut state, &mut table, &mut names, index)
     });
     Judged { verdict, state, table, names }
+}
+
+/// The rules that can fire in the last state that a trace reaches, or the refusal's number.
+pub fn rules(model: &[u8], trace: &[u8]) -> Result<Vec<usize>, u8> {
+    let mut state = vec![0; STATE_BYTES];
+    let mut table = vec![0; TABLE_ENTRIES];
+    let mut names = vec![0; NAMES_BYTES];
+    let mut list = vec![0; LIST_ENTRIES];
+    let count = INDEX.with_borrow_mut(|index| {
+        library::rules(model, trace, &mut state, &mut table, &mut names, index, &mut list)
+    })?;
+    Ok(list[..count].iter().map(|number| *number as usize).collect())
 }
 
 impl Judged {

@@ -18,6 +18,7 @@ mod output;
 mod pairs;
 mod places;
 mod report;
+mod rules;
 mod show;
 
 use args::{Args, Known};
@@ -37,7 +38,8 @@ pub struct Command {
 }
 
 /// The first is the one that is meant where none is named.
-const COMMANDS: [&Command; 4] = [&check::COMMAND, &count::COMMAND, &night::COMMAND, &show::COMMAND];
+const COMMANDS: [&Command; 5] =
+    [&check::COMMAND, &count::COMMAND, &night::COMMAND, &rules::COMMAND, &show::COMMAND];
 
 const INTRODUCTION: &str = "\
 Checks attack traces. A model says what may happen, a trace claims an attack on

@@ -6,7 +6,7 @@ use crate::board::{rule, Board, Files, Place, PLACES};
 use crate::codes::{tree_of_facts, OR};
 use crate::gen::{fields, raise, write_model, Rng};
 use crate::read::{Attack, Rule, NAMES_IN_USE, PERSISTENT};
-use crate::{crossed, fresh, lasting, past};
+use crate::{crossed, fresh, lasting, listed, past};
 
 type Kind = fn(Board) -> Files;
 
@@ -76,6 +76,9 @@ const KINDS: &[Kind] = &[
     crossed::last_place,
     crossed::one_fact,
     crossed::wide_chain,
+    listed::many,
+    listed::full,
+    listed::after,
 ];
 
 /// And a pair of one of these, which cost some hundredths of a second each.
@@ -242,7 +245,7 @@ fn long_run(mut b: Board) -> Files {
     run(b, steps)
 }
 
-/// A chain's last fact decides, wanted or unwanted; at times a link is missing.
+/// A chain's last fact decides, wanted or unwanted, also for two rules; at times a link is missing.
 fn chain_of(mut b: Board, length: usize) -> Files {
     let way = b.each(4);
     let links = b.loose(length + 1);
@@ -252,7 +255,9 @@ fn chain_of(mut b: Board, length: usize) -> Files {
         b.model.clauses.swap_remove(at);
     }
     let place = if way == 1 { Place::GoalN } else { Place::GoalP };
-    b.put(place, &links[links.len() - 1..]);
+    let last = &links[links.len() - 1..];
+    b.put(place, last);
+    b.model.rules = vec![Rule { neg: last.to_vec(), ..Rule::default() }, rule(last, &[])];
     b.files()
 }
 

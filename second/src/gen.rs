@@ -1,11 +1,11 @@
 //! Random pairs for comparing programs: sound ones whose steps run, and damaged ones.
 //! A pair depends on its seed and index alone, so any one of a stream can be made again.
 
-use crate::read::{bare_sections, initial_in, places_in, sections};
+use crate::read::{bare_sections, initial_in, places_in, rules_in, sections};
 use crate::read::{Attack, Clause, Model, Rule};
 use crate::read::{FORMULAS, NAMES_IN_USE, PERSISTENT};
 use crate::{bounds, codes};
-use crate::{INDEX_ENTRIES, NAMES_BYTES, STATE_BYTES, TABLE_ENTRIES};
+use crate::{INDEX_ENTRIES, LIST_ENTRIES, NAMES_BYTES, STATE_BYTES, TABLE_ENTRIES};
 use std::collections::BTreeSet;
 
 /// Splitmix64.
@@ -45,6 +45,7 @@ pub struct Pair {
     pub table_len: usize,
     pub names_len: usize,
     pub index_len: usize,
+    pub list_len: usize,
 }
 
 impl Pair {
@@ -62,10 +63,16 @@ impl Pair {
         let junk = Rng::new(seed ^ 0x1DE8, index).draw();
         (0..self.index_len).map(|i| (junk >> (i % 47)) as u16).collect()
     }
+
+    /// And the list of rules.
+    pub fn list(&self, seed: u64, index: u64) -> Vec<u16> {
+        let junk = Rng::new(seed ^ 0x2157, index).draw();
+        (0..self.list_len).map(|i| (junk >> (i % 43)) as u16).collect()
+    }
 }
 
 /// One pair in so many of the mixed stream is at a bound, the last of them.
-pub const AT_BOUNDS: u64 = 19;
+pub const AT_BOUNDS: u64 = 18;
 
 /// The mixed stream: a bit under half sound, the rest damaged or at the bounds, now and then too
 /// little room.
@@ -77,6 +84,7 @@ pub fn pair(seed: u64, index: u64) -> Pair {
         some_pair(&mut rng)
     };
     pair.index_len = some_index(&mut rng, places_in(&pair.model));
+    pair.list_len = some_list(&mut rng, rules_in(&pair.model));
     pair
 }
 
@@ -111,6 +119,19 @@ fn some_index(rng: &mut Rng, places: usize) -> usize {
     }
 }
 
+/// Room for a list around what so many rules need: every fifth one has too little.
+fn some_list(rng: &mut Rng, rules: usize) -> usize {
+    match rng.below(40) {
+        0..=4 => rules.saturating_sub(1),
+        5 | 6 => rng.below(rules),
+        7 => 0,
+        8..=25 => rules,
+        26..=32 => rules + 1,
+        33..=37 => rules + 64,
+        _ => LIST_ENTRIES,
+    }
+}
+
 /// Only pairs that ATTACK, BLOCKED, NOATTACK or USED answers.
 pub fn sound(seed: u64, index: u64) -> Pair {
     roomy(sound_files(&mut Rng::new(seed, index)))
@@ -129,6 +150,7 @@ fn roomy((model, trace): (Vec<u8>, Vec<u8>)) -> Pair {
         table_len: TABLE_ENTRIES,
         names_len: NAMES_BYTES,
         index_len: INDEX_ENTRIES,
+        list_len: LIST_ENTRIES,
     }
 }
 

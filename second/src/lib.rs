@@ -7,11 +7,13 @@ pub mod close;
 mod codes;
 mod count;
 mod crossed;
+mod firing;
 mod formula;
 mod fresh;
 pub mod gen;
 mod index;
 mod lasting;
+mod listed;
 mod past;
 pub mod read;
 mod tally;
@@ -19,6 +21,7 @@ mod tally;
 pub use close::{bench_close, bench_close_flat, close, close_api, close_indexed_api};
 pub use close::{clause_place, flat, Closed, Flat, Judged};
 pub use count::{count_api, Counts};
+pub use firing::rules_api;
 pub use index::places;
 pub use read::{parse, parse_model, Attack, Clause, Model, Parsed, Part, Rule, Trace};
 pub use tally::{Indexed, Tally};
@@ -72,6 +75,9 @@ pub const NAMES_BYTES: usize = 128;
 
 /// Enough for the body places of every model.
 pub const INDEX_ENTRIES: usize = 32_768;
+
+/// And for the rules of every model.
+pub const LIST_ENTRIES: usize = 2_048;
 
 /// A refusal before the first step: its number and the bytes it blames.
 #[derive(Clone, Copy, Debug, PartialEq, Eq)]
@@ -138,14 +144,26 @@ fn check_in(
         Err(fault) => refusal(fault),
         Ok(parsed) => {
             let end = run(&parsed);
-            write_bits(&end.stored, &mut state[..STATE_BYTES]);
-            write_table(end.numbers(), table);
-            write_bits(&end.used, &mut names[..NAMES_BYTES]);
-            if let Some(index) = index {
-                write_index(&parsed.model, index);
-            }
+            leave(&parsed, &end, state, table, names, index);
             end.verdict
         }
+    }
+}
+
+/// Where a run ends, into buffers that have room.
+fn leave(
+    parsed: &Parsed,
+    end: &End,
+    state: &mut [u8],
+    table: &mut [u16],
+    names: &mut [u8],
+    index: Option<&mut [u16]>,
+) {
+    write_bits(&end.stored, &mut state[..STATE_BYTES]);
+    write_table(end.numbers(), table);
+    write_bits(&end.used, &mut names[..NAMES_BYTES]);
+    if let Some(index) = index {
+        write_index(&parsed.model, index);
     }
 }
 

@@ -217,15 +217,26 @@ pub(crate) fn initial_in(model: &[u8]) -> Vec<u16> {
 
 /// The body places of a file's clauses, as far as they can be followed.
 pub(crate) fn places_in(model: &[u8]) -> usize {
-    let clauses = || section_part(model, bare_sections(model));
-    let all = if model.is_empty() { None } else { clauses() };
-    let Some(Part { mut start, len }) = all else { return 0 };
-    let (end, mut places) = (start + len, 0);
+    let clauses = records_in(model, 0);
+    clauses.iter().map(|record| record.len.saturating_sub(4) / 2).sum()
+}
+
+/// The rules of a file likewise.
+pub(crate) fn rules_in(model: &[u8]) -> usize {
+    records_in(model, 1).len()
+}
+
+/// The records of a section, the clauses being 0, with their lengths.
+fn records_in(model: &[u8], section: usize) -> Vec<Part> {
+    let section = || section_part(model, bare_sections(model) + section);
+    let all = if model.is_empty() { None } else { section() };
+    let Some(Part { mut start, len }) = all else { return Vec::new() };
+    let (end, mut records) = (start + len, Vec::new());
     while let Ok(record) = record_place(model, Part { start, len: end - start }) {
-        places += record.len.saturating_sub(4) / 2;
+        records.push(record);
         start = record.end();
     }
-    places
+    records
 }
 
 /// What the names of a rule's record are refused with if nothing else in it is: SHAPE, COUNT, BADNAME or ORDER.

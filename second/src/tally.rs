@@ -2,25 +2,30 @@
 //! a stream of pairs.
 
 use crate::close::{close_api, close_indexed_api, Closed};
+use crate::firing::rules_api;
 use crate::formula::{self, truth, Wrong};
 use crate::gen::{start_for, Pair};
 use crate::read::{
-    bare_sections, names_at_fault, numbers, parse, places_in, section_part, sections, Parsed, Part,
+    bare_sections, names_at_fault, numbers, parse, places_in, rules_in, section_part, sections,
 };
+use crate::read::{Parsed, Part};
 use crate::read::{FORMULAS, NAMES_IN_USE, PERSISTENT};
-use crate::{asked, check_indexed, run, Verdict};
+use crate::{asked, check, check_indexed, first_unmet, run, Verdict};
 use crate::{
     ATTACK, BADNAME, BLOCKED, COUNT, FACT, FORMULA, LONG, MODEL, NAME, NAMES, NEGATED, NEGATIVE,
 };
 use crate::{NOATTACK, NONE, ORDER, POSITIVE, ROOM, SHAPE, TRACE, USED, VERSION};
 use std::collections::BTreeSet;
 
-/// What comes of a pair where an index is lent: the check's number, and what closing by itself answers with
-/// the index and without it.
+/// What comes of a pair where an index is lent: the check's number, what closing by itself answers with
+/// the index and without it, and how many rules fire. The table and the names are a check's.
 pub struct Indexed {
     pub number: u8,
     pub closed: Result<Closed, u8>,
     pub plain: Result<usize, u8>,
+    pub firing: Result<usize, u8>,
+    pub table: Vec<u16>,
+    pub names: Vec<u8>,
 }
 
 impl Indexed {
@@ -35,9 +40,15 @@ impl Indexed {
             Err(ROOM) => close_api(model, &start, &mut table),
             other => other.map(|closed| closed.rounds),
         };
+        let (mut list, mut lent) = (pair.list(seed, index), places.clone());
+        let firing =
+            rules_api(model, trace, &mut state, &mut table, &mut names, &mut lent, &mut list);
         let number =
             check_indexed(model, trace, &mut state, &mut table, &mut names, &mut places).number;
-        Indexed { number, closed, plain }
+        if number == ROOM {
+            check(model, trace, &mut state, &mut table, &mut names);
+        }
+        Indexed { number, closed, plain, firing, table, names }
     }
 }
 
@@ -48,9 +59,11 @@ struct Seen<'a> {
     verdict: &'a Verdict,
     indexed: &'a Indexed,
     places: usize,
+    rules: usize,
     without: Verdict,
     named: Named,
     asked: Option<Asked>,
+    fired: Option<Fired>,
 }
 
 /// What names did in a pair that is run.
@@ -64,6 +77,14 @@ struct Named {
     later: bool,
     /// Names are used at the end.
     left: bool,
+}
+
+/// What the rules of a pair that is run come to in its last state.
+struct Fired {
+    /// So many fire.
+    count: usize,
+    /// One would, but for a name that is used.
+    by_name: bool,
 }
 
 /// What a formula that is judged would not be the same without.
@@ -80,7 +101,7 @@ struct Asked {
 /// Whether a pair counts.
 type Counts = fn(&Seen) -> bool;
 
-const ROWS: [(&str, Counts); 55] = [
+const ROWS: [(&str, Counts); 70] = [
     ("positive", |s| s.verdict.kind == POSITIVE),
     ("negative, stored", |s| s.verdict.kind == NEGATIVE && s.verdict.round == 0),
     ("negative, round 1", |s| s.verdict.kind == NEGATIVE && s.verdict.round == 1),
@@ -136,6 +157,23 @@ const ROWS: [(&str, Counts); 55] = [
     (".. of closing, before its 6", |s| s.closing_is_short() && s.indexed.plain == Err(FACT)),
     ("all places crossed", |s| s.crossings().is_some_and(|n| n > 0 && n == s.places)),
     (".. not all", |s| s.crossings().is_some_and(|n| n < s.places)),
+    ("a list, just long enough", |s| s.firing() > 0 && s.pair.list_len == s.rules),
+    (".. and longer", |s| s.firing() > 0 && s.pair.list_len > s.rules),
+    ("ROOM of a list", |s| s.list_is_short()),
+    (".. by one entry", |s| s.list_is_short() && s.pair.list_len + 1 == s.rules),
+    (".. though the answer fits", |s| s.list_is_short() && s.would_fit()),
+    (".. before the trace's fault", |s| s.list_is_short() && s.blames_trace(&[SHAPE, COUNT, NAME])),
+    (".. after a file's 2 or 3", |s| {
+        s.lacks_rules() && [LONG, VERSION].contains(&s.verdict.number)
+    }),
+    (".. after the model's fault", |s| s.lacks_rules() && s.blames_model()),
+    ("no rule fires", |s| s.rules > 0 && s.indexed.firing == Ok(0)),
+    ("some rules fire", |s| s.firing() > 0 && s.firing() < s.rules),
+    ("all rules fire", |s| s.firing() > 0 && s.firing() == s.rules),
+    ("rules that fire, BLOCKED", |s| s.firing() > 0 && s.verdict.number == BLOCKED),
+    ("rules that fire or not, USED", |s| s.indexed.firing.is_ok() && s.verdict.number == USED),
+    ("rules that fire, NOATTACK", |s| s.firing() > 0 && s.verdict.number == NOATTACK),
+    ("a used name keeps a rule", |s| s.firing_is(|fired| fired.by_name)),
 ];
 
 impl Seen<'_> {
@@ -203,6 +241,28 @@ impl Seen<'_> {
         self.indexed.closed == Err(ROOM) && self.indexed.plain != Err(ROOM)
     }
 
+    /// How many rules are answered; 0 for a refusal.
+    fn firing(&self) -> usize {
+        self.indexed.firing.unwrap_or(0)
+    }
+
+    fn firing_is(&self, counts: impl Fn(&Fired) -> bool) -> bool {
+        self.indexed.firing.is_ok() && self.fired.as_ref().is_some_and(counts)
+    }
+
+    fn lacks_rules(&self) -> bool {
+        self.pair.list_len < self.rules
+    }
+
+    /// Refused for the list and for nothing else.
+    fn list_is_short(&self) -> bool {
+        self.indexed.firing == Err(ROOM) && self.indexed.number != ROOM
+    }
+
+    fn would_fit(&self) -> bool {
+        self.fired.as_ref().is_some_and(|fired| fired.count <= self.pair.list_len)
+    }
+
     fn crossings(&self) -> Option<usize> {
         self.indexed.closed.ok().map(|closed| closed.crossings)
     }
@@ -248,6 +308,14 @@ fn named(Parsed { model, trace, .. }: &Parsed, verdict: &Verdict) -> Named {
     }
 }
 
+/// By the round numbers of the last state and the names used by then.
+fn fired(Parsed { model, .. }: &Parsed, table: &[u16], names: &[u8]) -> Fired {
+    let is_used = |name: &u16| names[*name as usize / 8] >> (name % 8) & 1 == 1;
+    let met = model.rules.iter().filter(|rule| first_unmet(&rule.pos, &rule.neg, table).is_none());
+    let (by_name, firing): (Vec<_>, Vec<_>) = met.partition(|rule| rule.names.iter().any(is_used));
+    Fired { count: firing.len(), by_name: !by_name.is_empty() }
+}
+
 /// What the goal hangs on, if it is a formula; nothing where a step doesn't fire.
 fn hangs_on(parsed: &Parsed, verdict: &Verdict) -> Option<Asked> {
     let formula = asked(&parsed.model, parsed.trace.goal as usize)?;
@@ -289,11 +357,13 @@ impl Tally {
     pub fn add(&mut self, pair: &Pair, verdict: &Verdict, indexed: &Indexed) {
         self.numbers[verdict.number as usize] += 1;
         let (without, named) = (*verdict, Named::default());
-        let places = places_in(&pair.model);
-        let mut seen = Seen { pair, verdict, indexed, places, without, named, asked: None };
+        let (places, rules) = (places_in(&pair.model), rules_in(&pair.model));
+        let (asked, fired) = (None, None);
+        let mut seen = Seen { pair, verdict, indexed, places, rules, without, named, asked, fired };
         if let (Ok(parsed), true) = (parse(&pair.model, &pair.trace), verdict.number != ROOM) {
             seen.named = self::named(&parsed, verdict);
             seen.asked = hangs_on(&parsed, verdict);
+            seen.fired = Some(self::fired(&parsed, &indexed.table, &indexed.names));
             seen.without = without_persistence(parsed, verdict);
         }
         for (times, (_, counts)) in self.rows.iter_mut().zip(ROWS) {

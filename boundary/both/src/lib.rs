@@ -79,6 +79,14 @@ impl Buffers {
         }
     }
 
+    /// The library's list of rules likewise; the index is lent.
+    fn list_rules(&mut self, model: &[u8], trace: &[u8], list: &mut [u16], out: &mut [u64]) -> u8 {
+        let (state, table) = (inside(&mut self.state), inside(&mut self.table));
+        let (names, index) = (inside(&mut self.names), self.index.as_mut());
+        let index = index.map(|index| inside(index)).unwrap_or_default();
+        cantivorex::rules_into(model, trace, state, table, names, index, list, out)
+    }
+
     /// The library's check against the verdict of the second program, and what that left.
     fn check(
         mut self,
@@ -256,6 +264,35 @@ pub fn close_forms(
     let plain = indexed.map(|closed| closed.rounds);
     close_is(model, state, &before, plain, table)?;
     Ok((indexed, plain))
+}
+
+/// Every rule that fires, listed by both, or what differs; first into an `out` of no entries.
+pub fn rules(
+    model: &[u8],
+    trace: &[u8],
+    state: &mut [u8],
+    table: &mut [u16],
+    names: &mut [u8],
+    index: &mut [u16],
+    list: &mut [u16],
+) -> Result<Result<usize, u8>, String> {
+    let mut ours = Buffers::new(state, table, names, Some(index));
+    let (before, mut our_list) = (ours.clone(), guarded(list, 0xC3C3));
+    let short = ours.list_rules(model, trace, inside(&mut our_list), &mut []);
+    same("no out for rules", short, 1)?;
+    ours.same(" without out for rules", &before)?;
+    same_area("the list without out", &our_list, &guarded(list, 0xC3C3))?;
+    let (mut out, mut out_2) = (guarded(&[7; 2], 9), guarded(&[7; 2], 9));
+    let number = ours.list_rules(model, trace, inside(&mut our_list), inside(&mut out));
+    let answer = second::rules_api(model, trace, state, table, names, index, list);
+    if let Ok(count) = answer {
+        inside(&mut out_2)[0] = count as u64;
+    }
+    same("the number for rules", number, answer.err().unwrap_or(0))?;
+    same_area("how many rules fire", &out, &out_2)?;
+    same_area("the list of rules", &our_list, &guarded(list, 0xC3C3))?;
+    ours.same(" with rules", &Buffers::new(state, table, names, Some(index)))?;
+    Ok(answer)
 }
 
 /// What a model has, counted by both, or what differs; first into a few entries that are too few.

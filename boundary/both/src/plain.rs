@@ -1,5 +1,5 @@
 //! A plain Rust reader of a model in place, to measure against: the number of 2 to 7, 12 or 17, or 0,
-//! without lists and without places.
+//! without lists and without places. And a plain loop over the rules of a model that is well-formed.
 
 /// Of two faults of a record the one that is judged first; 0 is none.
 fn worse(a: u8, b: u8) -> u8 {
@@ -16,12 +16,22 @@ pub(crate) fn word(bytes: &[u8]) -> usize {
 }
 
 /// Takes the next section off the rest of the file.
-pub(crate) fn section<'a>(rest: &mut &'a [u8]) -> Option<&'a [u8]> {
+fn section<'a>(rest: &mut &'a [u8]) -> Option<&'a [u8]> {
     let (len, after) = rest.split_at_checked(4)?;
     let len = u32::from_be_bytes([len[0], len[1], len[2], len[3]]) as usize;
     let (bytes, after) = after.split_at_checked(len)?;
     *rest = after;
     Some(bytes)
+}
+
+/// The bytes of a well-formed model's clauses (0) or rules (1): two to four sections of bare numbers stand before them.
+pub(crate) fn records_of(model: &[u8], kind: usize) -> &[u8] {
+    let mut rest = &model[1..];
+    let bare = [2, 3, 4, 4][model[0] as usize - 1];
+    for _ in 0..bare + kind {
+        section(&mut rest).expect("a well-formed model");
+    }
+    section(&mut rest).expect("a well-formed model")
 }
 
 /// Takes the next record off the rest of its section.
@@ -177,8 +187,56 @@ fn judge_sections(version: u8, mut rest: &[u8]) -> Result<(), u8> {
     none(if rest.is_empty() { 0 } else { 4 })
 }
 
+/// Takes the next list off the rest of its record, and says whether all of its numbers are fine.
+fn all(rest: &mut &[u8], is_fine: impl Fn(usize) -> bool) -> bool {
+    let (list, after) = rest[2..].split_at(2 * word(rest));
+    *rest = after;
+    list.chunks_exact(2).map(word).all(is_fine)
+}
+
+/// The numbers of the rules that fire, at the front of a list that has room, where facts have these round numbers and
+/// these names are used.
+pub fn firing(model: &[u8], table: &[u16; 4_096], names: &[u8; 128], list: &mut [u16]) -> usize {
+    let is_there = |fact: usize| table[fact & 4_095] != 65_535;
+    let is_unused = |name: usize| names[name / 8 & 127] >> (name % 8) & 1 == 0;
+    let (mut rest, mut number, mut count) = (records_of(model, 1), 0, 0);
+    while let Some(mut rule) = record(&mut rest) {
+        // The facts that it adds say nothing.
+        let fires = all(&mut rule, is_there)
+            && all(&mut rule, |fact| !is_there(fact))
+            && (model[0] < 3 || all(&mut rule, |_| true) && all(&mut rule, is_unused));
+        if fires {
+            list[count] = number;
+            count += 1;
+        }
+        number += 1;
+    }
+    count
+}
+
 #[cfg(test)]
 mod tests {
+    #[test]
+    fn it_lists_the_rules_as_the_second_program_does() {
+        for index in 0..5_000 {
+            let second::gen::Pair { model, trace, .. } = second::gen::sound(3, index);
+            let (mut state, mut table, mut names) = ([0; 512], [0; 4_096], [0; 128]);
+            let (mut places, mut one) = (vec![0; 32_768], vec![7; 2_048]);
+            let mut two = one.clone();
+            let count = second::rules_api(
+                &model,
+                &trace,
+                &mut state,
+                &mut table,
+                &mut names,
+                &mut places,
+                &mut one,
+            );
+            assert_eq!(Ok(super::firing(&model, &table, &names, &mut two)), count, "pair {index}");
+            assert_eq!(one, two, "pair {index}");
+        }
+    }
+
     #[test]
     fn it_judges_as_the_second_program_does() {
         for index in 0..50_000 {

@@ -1,7 +1,7 @@
 //! The second program's own tests, run through both programs: cases A to L, the edges, every fault and every two faults
-//! together, versions 2 to 4, and the index.
-//! Those tests say `second`; here that is this file, whose `check`, `close_api` and `count_api`, and the first two with
-//! an index, make each call of both and compare.
+//! together, versions 2 to 4, the index, and the rules that fire.
+//! Those tests say `second`; here that is this file, whose `check`, `close_api`, `rules_api` and `count_api`, and the
+//! first two with an index, make each call of both and compare.
 
 extern crate second as other;
 extern crate self as second;
@@ -10,6 +10,8 @@ extern crate self as second;
 mod cases;
 #[path = "../../../second/tests/faults.rs"]
 mod faults;
+#[path = "../../../second/tests/firing.rs"]
+mod firing;
 #[path = "../../../second/tests/formulas.rs"]
 mod formulas;
 #[path = "../../../second/tests/names.rs"]
@@ -55,6 +57,19 @@ pub fn close_indexed_api(
     index: &mut [u16],
 ) -> Result<Closed, u8> {
     let answer = both::close_indexed(model, state, table, index);
+    answer.unwrap_or_else(|difference| panic!("{difference}"))
+}
+
+pub fn rules_api(
+    model: &[u8],
+    trace: &[u8],
+    state: &mut [u8],
+    table: &mut [u16],
+    names: &mut [u8],
+    index: &mut [u16],
+    list: &mut [u16],
+) -> Result<usize, u8> {
+    let answer = both::rules(model, trace, state, table, names, index, list);
     answer.unwrap_or_else(|difference| panic!("{difference}"))
 }
 

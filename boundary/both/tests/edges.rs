@@ -1,7 +1,7 @@
 //! The edges of document 01: a pair on each side of every bound and one for each fault, through the proved library; the
 //! same for versions 2 to 4, what a step does to persistent facts and to names, what formulas say; what models have;
-//! what stands in an index. What must come out was worked out by hand: EDGES.md has the reasoning, edges.txt,
-//! effects.txt, figures.txt and indexes.txt the lines.
+//! what stands in an index; which rules fire. What must come out was worked out by hand: EDGES.md has the reasoning,
+//! edges.txt, effects.txt, figures.txt, indexes.txt and firing.txt the lines.
 
 use cantivorex::{Closed, Counts, Verdict, NAMES_BYTES, STATE_BYTES, TABLE_ENTRIES};
 use second::gen::{write_model, write_trace};
@@ -945,6 +945,150 @@ fn indexed((label, files, start, entries): &Lent) -> String {
     format!("{label}: {closed} {}, number {} {}", shown(&one), v.number, shown(&two))
 }
 
+/// A pair, and how many entries of an index and of a list are lent.
+type Listed = (&'static str, Files, usize, usize);
+
+/// The plain pair without steps and with fact 0 there, changed.
+fn at_first(change: impl FnOnce(&mut Lists)) -> Files {
+    listed(|l| {
+        (l.model.initial, l.steps) = (vec![0], vec![]);
+        change(l);
+    })
+}
+
+/// A rule that adds nothing.
+fn asking(pos: &[u16], neg: &[u16]) -> Rule {
+    Rule { pos: pos.to_vec(), neg: neg.to_vec(), ..Rule::default() }
+}
+
+fn rules_that_fire() -> Vec<Listed> {
+    let rules = |rules: Vec<Rule>| at_first(|l| l.model.rules = rules);
+    let again = |step| rules_and_steps(vec![rule(&[0], &[0])], vec![0; step]);
+    let three = || rules(vec![rule(&[0], &[]); 3]);
+    let of_clause = |l: &mut Lists| {
+        l.model.clauses[0].body = vec![1];
+        (l.model.initial, l.steps) = (vec![1], vec![0]);
+    };
+    let frozen = vec![asking(&[0], &[5]), rule(&[], &[5])];
+    let kept = |l: &mut Lists| (l.model.persistent, l.steps) = (Some(vec![0]), vec![0]);
+    vec![
+        ("a rule that is blocked", plain(), 1, 1),
+        ("a rule that fires", at_first(|_| ()), 1, 1),
+        ("a rule that took its fact", at_first(|l| l.steps = vec![0]), 1, 1),
+        ("a rule that added its fact again", again(1), 1, 1),
+        ("the same 1024 times", again(1_024), 1, 1),
+        ("a rule whose fact is persistent", at_first(kept), 1, 1),
+        ("a rule whose fact is derived", listed(of_clause), 1, 1),
+        ("a goal that isn't met", at_first(|l| l.model.attacks[0].pos = vec![39]), 1, 1),
+        ("the second of three rules", rules(ordered()), 1, 3),
+        ("what a step before put in the way", rules_and_steps(frozen, vec![1, 0]), 1, 2),
+        ("no rule and no entry", rules(vec![]), 1, 0),
+        ("a rule that is blocked and no entry", plain(), 1, 0),
+        ("three rules and two entries", three(), 1, 2),
+        ("three rules and three entries", three(), 1, 3),
+        ("three rules and five entries", three(), 1, 5),
+        ("a rule and no entry of an index", at_first(|_| ()), 0, 1),
+    ]
+}
+
+fn rules_and_steps(rules: Vec<Rule>, steps: Vec<u16>) -> Files {
+    at_first(|l| (l.model.rules, l.steps) = (rules, steps))
+}
+
+/// Of these the second fires with fact 0.
+fn ordered() -> Vec<Rule> {
+    vec![rule(&[1], &[]), rule(&[0], &[]), asking(&[], &[0])]
+}
+
+fn full_of_rules() -> Vec<Listed> {
+    let most = |there: u16, last: u16| {
+        let mut rules = vec![rule(&[there], &[]); 2_048];
+        rules[2_047] = rule(&[last], &[]);
+        rules_and_steps(rules, vec![])
+    };
+    let full = |initial: Vec<u16>, pos: &[u16], neg: &[u16]| {
+        at_first(|l| (l.model.initial, l.model.rules) = (initial, vec![asking(pos, neg)]))
+    };
+    let derived = |l: &mut Lists| {
+        l.model.clauses[0] = Clause { head: 32, body: vec![5] };
+        (l.model.initial, l.steps) = (vec![33], vec![]);
+        l.model.rules[0] = asking(&[33], &facts(1, 32));
+    };
+    let given = |l: &mut Lists| {
+        derived(l);
+        l.model.clauses[0].body = vec![33];
+    };
+    vec![
+        ("2048 rules", most(0, 0), 1, 2_048),
+        ("2048 rules and an entry less", most(0, 0), 1, 2_047),
+        ("2048 rules and an entry more", most(0, 0), 1, 2_049),
+        ("the last of 2048 rules", most(1, 0), 1, 2_048),
+        ("all but the last of 2048 rules", most(0, 1), 1, 2_048),
+        ("the last of 2048 rules and an entry less", most(1, 0), 1, 2_047),
+        ("32 in P", full(facts(0, 32), &facts(0, 32), &[]), 1, 1),
+        ("32 in P, the last missing", full(facts(0, 31), &facts(0, 32), &[]), 1, 1),
+        ("32 in N", full(vec![0], &[], &facts(1, 32)), 1, 1),
+        ("32 in N, the last there", full(vec![32], &[], &facts(1, 32)), 1, 1),
+        ("32 in N, the last a head", listed(derived), 1, 1),
+        ("32 in N, the last derived", listed(given), 1, 1),
+    ]
+}
+
+/// Rule 0 asks for nothing and makes these names; rule 1 makes another. So many are in use, and these the steps.
+fn making(made: Vec<u16>, in_use: Vec<u16>, steps: Vec<u16>) -> Files {
+    named(|l| {
+        l.model.names = Some(in_use);
+        l.model.rules = vec![Rule::default(); 2];
+        (l.model.rules[0].names, l.model.rules[1].names) = (made, vec![1_023]);
+        l.steps = steps;
+    })
+}
+
+fn rules_that_make_names() -> Vec<Listed> {
+    vec![
+        ("two rules that make names", making(vec![7], vec![], vec![]), 1, 2),
+        ("the first made its name", making(vec![7], vec![], vec![0]), 1, 2),
+        ("the first made both", making(vec![7, 1_023], vec![], vec![0]), 1, 2),
+        ("the first's name is in use", making(vec![7], vec![7], vec![]), 1, 2),
+        ("the same as a step", making(vec![7, 1_023], vec![7], vec![0]), 1, 2),
+        ("the last of 32 names in use", making(facts(0, 32), vec![31], vec![]), 1, 2),
+        ("the next name in use", making(facts(0, 32), vec![32], vec![]), 1, 2),
+    ]
+}
+
+fn room_for_a_list() -> Vec<Listed> {
+    let twice = || in_rule(|r| r.pos = vec![1, 1]);
+    let goal = || listed(|l| l.goal = 1);
+    vec![
+        ("no entry and a model's last byte missing", plain().model_of(44), 1, 0),
+        ("no entry and a fact twice in a rule's P", twice(), 1, 0),
+        ("no entry and name 1024 in use", in_use(vec![1_024]), 1, 0),
+        ("no entry and a formula of no code", formula(&[]), 1, 0),
+        ("no entry and a trace of 4097 bytes", plain().trace_of(4_097), 1, 0),
+        ("no entry and a trace of version 2", plain().trace_version(2), 1, 0),
+        ("no entry and a trace's last byte missing", plain().trace_of(8), 1, 0),
+        ("no entry and 1025 steps", listed(|l| repeat(&mut l.steps, 1_025)), 1, 0),
+        ("no entry and an attack state that is missing", goal(), 1, 0),
+        ("no entry and a rule that is missing", listed(|l| l.steps = vec![1]), 1, 0),
+        ("an entry and an attack state that is missing", goal(), 1, 1),
+        ("an entry and a rule that is missing", listed(|l| l.steps = vec![1]), 1, 1),
+        ("an entry and a rule missing after a blocked one", listed(|l| l.steps.push(1)), 1, 1),
+        ("an entry and a trace's last byte missing", plain().trace_of(8), 1, 1),
+        ("an entry, none of an index and no attack state", goal(), 0, 1),
+    ]
+}
+
+fn firing((label, files, places, entries): &Listed) -> String {
+    let Files { model, trace } = files;
+    let (state, table) = (&mut [0; STATE_BYTES], &mut [0; TABLE_ENTRIES]);
+    let (names, index) = (&mut [0; NAMES_BYTES], &mut vec![0; *places]);
+    let mut list = vec![STAYS; *entries];
+    match cantivorex::rules(model, trace, state, table, names, index, &mut list) {
+        Ok(count) => format!("{label}: {count} fire {}", shown(&list)),
+        Err(number) => format!("{label}: number {number} {}", shown(&list)),
+    }
+}
+
 fn verdict(files: &Files) -> Verdict {
     let (mut state, mut table) = ([0; STATE_BYTES], [0; TABLE_ENTRIES]);
     cantivorex::check(&files.model, &files.trace, &mut state, &mut table, &mut [0; NAMES_BYTES])
@@ -1048,4 +1192,11 @@ fn every_index_is_what_was_worked_out_by_hand() {
     let groups = [places, many_places, room_and_another];
     let all: Vec<Lent> = groups.iter().flat_map(|group| group()).collect();
     agree(&all, indexed, include_str!("indexes.txt"));
+}
+
+#[test]
+fn every_rule_fires_that_was_worked_out_by_hand() {
+    let groups = [rules_that_fire, full_of_rules, rules_that_make_names, room_for_a_list];
+    let all: Vec<Listed> = groups.iter().flat_map(|group| group()).collect();
+    agree(&all, firing, include_str!("firing.txt"));
 }

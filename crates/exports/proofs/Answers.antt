@@ -19,7 +19,9 @@ use Rattle.closing.specs.declared.Crossed.{Crossed}
 use Rattle.checking.specs.Verdict.{Lent, verdictOf, Buffers, Checked, CheckedIndexed}
 use Rattle.checking.specs.declared.Verdict.{Verdict}
 use Rattle.exports.specs.Exports.{shorter, over, values, VerdictOut, ChecksOut, ChecksIndexedOut}
-use Rattle.exports.specs.Exports.{unlessRefused, ClosesOut, ClosesIndexedOut}
+use Rattle.firing.specs.Firing as firing
+use Rattle.firing.specs.declared.Fired.{Fired}
+use Rattle.exports.specs.Exports.{unlessRefused, ClosesOut, ClosesIndexedOut, RulesOut}
 use Rattle.exports.specs.Exports.{modelRefusal, figures, CountsOut}
 use Rattle.exports.proofs.Fronts.{stored}
 
@@ -154,6 +156,58 @@ module _ (m state table ix : List ℕ) where
         let number = crossed-some _ _ _ _ (sym told ∙ closed .answers) in
         rw (le-ltb _ _ room)
         (record { number = rw number; rounds = rw number; entries = closed .table; index = closed .index })
+
+-- ---- the rules that fire
+
+-- a count is answered where nothing is refused
+count-fine : (o : Option ℕ) (k n : ℕ) → Fired.Count n ≡ firing.answer o k → (o ≡ none) × (n ≡ k)
+unfolding firing.answer
+count-fine none k n e = (refl, cc)
+count-fine (some j) k n e = let z : _≡_ {A = ℕ} 0 1 = cc in absurd (omega arith)
+
+-- a refusal is answered by its number
+rules-some : (o : Option ℕ) (k n : ℕ) → Fired.Refused n ≡ firing.answer o k → o ≡ some n
+unfolding firing.answer
+rules-some none k n e = let z : _≡_ {A = ℕ} 0 1 = cc in absurd (omega arith)
+rules-some (some j) k n e = cc
+
+module _ (m t : List ℕ) (before : Lent) (ix list : List ℕ) where
+  -- without room for the count
+  pub no-count : (out : List ℕ) → length out < 1
+      → RulesOut (shorter out 1) m t before before ix ix list list out out 1
+  unfolding shorter RulesOut
+  no-count out short = rw (lt-ltb _ _ short) (refl, refl, refl, refl, refl)
+
+  module _ (after : Lent) (ix' list' out : List ℕ) (r : Fired) (n : ℕ) (room : 1 ≤ length out)
+      (fired : firing.FiresIn m t before after ix ix' list list' r) where
+    -- the count is written
+    pub some-count : r ≡ Fired.Count n
+        → RulesOut (shorter out 1) m t before after ix ix' list list' out (set out 0 n) 0
+    unfolding shorter RulesOut code unlessRefused
+    some-count told =
+        let (fine, same) = count-fine _ _ _ (sym told ∙ fired .answers) in
+        rw (le-ltb _ _ room)
+        (record {
+          number = rw fine;
+          count = rw (fine, ← same) (stored (n ∷ []) out room);
+          entries = fired .numbers;
+          buffers = fired .buffers;
+          index = fired .index;
+        })
+
+    -- a refusal writes nothing
+    pub rules-refused : r ≡ Fired.Refused n → RulesOut (shorter out 1) m t before after ix ix' list list' out out n
+    unfolding shorter RulesOut code unlessRefused
+    rules-refused told =
+        let number = rules-some _ _ _ (sym told ∙ fired .answers) in
+        rw (le-ltb _ _ room)
+        (record {
+          number = rw number;
+          count = rw number;
+          entries = fired .numbers;
+          buffers = fired .buffers;
+          index = fired .index;
+        })
 
 -- ---- a model's figures
 

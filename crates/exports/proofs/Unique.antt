@@ -10,8 +10,10 @@ use Rattle.closing.proofs.Alone.{table-unique}
 use Rattle.closing.proofs.Crossings.{index-left}
 use Rattle.checking.specs.Verdict.{Lent, refusal, refusalIndexed}
 use Rattle.checking.proofs.Theorems.{LentBytes, buffers-unique}
+use Rattle.firing.specs.Firing.{rulesRefusal}
+use Rattle.firing.proofs.Theorems.{left-unique}
 use Rattle.exports.specs.Exports.{ChecksOut, ChecksIndexedOut, ClosesOut, ClosesIndexedOut}
-use Rattle.exports.specs.Exports.{CountsOut, PartOut}
+use Rattle.exports.specs.Exports.{RulesOut, CountsOut, PartOut}
 
 -- checking: the number, the values and the buffers
 module _ (m t : List ℕ) (before : Lent) {a b : Lent} (bytes-a : LentBytes a) (bytes-b : LentBytes b) where
@@ -38,6 +40,22 @@ module _ (m t : List ℕ) (before : Lent) {a b : Lent} (bytes-a : LentBytes a) (
         buffers-unique m t before bytes-a bytes-b refused (x .0 .buffers) (y .0 .buffers),
         index-left refused (modelOf m .clauses) ix i₁ i₂ (x .1) (y .1),
         x .0 .values ∙ sym (y .0 .values),
+      )
+
+  -- the rules that fire: the answer, the buffers, the index, the list and the count
+  pub rules-unique : (short : Bool) (ix i₁ i₂ list l₁ l₂ out o₁ o₂ : List ℕ) (r₁ r₂ : ℕ)
+      → RulesOut short m t before a ix i₁ list l₁ out o₁ r₁ → RulesOut short m t before b ix i₂ list l₂ out o₂ r₂
+      → (r₁ ≡ r₂) × (a ≡ b) × (i₁ ≡ i₂) × (l₁ ≡ l₂) × (o₁ ≡ o₂)
+  unfolding RulesOut
+  rules-unique true ix i₁ i₂ list l₁ l₂ out o₁ o₂ r₁ r₂ x y =
+      (x .0 ∙ sym (y .0), x .1 ∙ sym (y .1), x .2 ∙ sym (y .2), x .3 ∙ sym (y .3), x .4 ∙ sym (y .4))
+  rules-unique false ix i₁ i₂ list l₁ l₂ out o₁ o₂ r₁ r₂ x y =
+      let refused = rulesRefusal m t before ix list in (
+        x .number ∙ sym (y .number),
+        left-unique m t before bytes-a bytes-b refused (x .buffers) (y .buffers),
+        index-left refused (modelOf m .clauses) ix i₁ i₂ (x .index) (y .index),
+        x .entries ∙ sym (y .entries),
+        x .count ∙ sym (y .count),
       )
 
 -- closing: the answer, the table and the rounds

@@ -14,8 +14,9 @@ use Rattle.facts.specs.Facts.{members}
 use Rattle.records.specs.Answers.{code}
 use Rattle.files.specs.Files.{modelOf, modelFault}
 use Rattle.closing.specs.Closing.{closeRefusal, closeRefusalIndexed, Table, Index}
-use Rattle.checking.specs.Verdict.{Lent, refusal, refusalIndexed, verdictOf, Buffers}
+use Rattle.checking.specs.Verdict.{Lent, refusal, refusalIndexed, verdictOf, Buffers, outcome}
 use Rattle.checking.specs.declared.Verdict.{Verdict}
+use Rattle.firing.specs.Firing.{firing, rulesRefusal, numbersIn, LeftAsChecked}
 
 -- whether a list has fewer than n entries
 unfoldable pub shorter : List ℕ → ℕ → Bool
@@ -85,6 +86,25 @@ unfoldable pub ClosesIndexedOut : Bool → List ℕ → List ℕ → List ℕ �
 ClosesIndexedOut true m state table table' ix ix' out out' r =
     (r ≡ 1) × (table' ≡ table) × (ix' ≡ ix) × (out' ≡ out)
 ClosesIndexedOut false m state table table' ix ix' out out' r = CrossingsOut m state table table' ix ix' out out' r
+
+-- what `cantivorex_rules` answers with room for the count: its number, the count, every entry of the list and the
+-- index, and every byte and entry of the buffers (document 02, wish 1)
+pub record CountOut (m t : List ℕ) (before after : Lent) (ix ix' list list' out out' : List ℕ) (r : ℕ) : Type 0 where
+  pub number : r ≡ code (rulesRefusal m t before ix list)
+  pub count : out'
+      ≡ unlessRefused (rulesRefusal m t before ix list) (length (firing (modelOf m) (outcome m t .state)) ∷ []) out
+  pub entries : list'
+      ≡ numbersIn (rulesRefusal m t before ix list) (firing (modelOf m) (outcome m t .state)) list
+  pub buffers : LeftAsChecked (rulesRefusal m t before ix list) m t before after
+  pub index : Index (rulesRefusal m t before ix list) (modelOf m .clauses) ix ix'
+
+-- what it promises: without room for the count, 1 and no change
+unfoldable pub RulesOut : Bool → List ℕ → List ℕ → Lent → Lent → List ℕ → List ℕ → List ℕ → List ℕ → List ℕ → List ℕ
+    → ℕ → Type 0
+RulesOut true m t before after ix ix' list list' out out' r =
+    (r ≡ 1) × (after ≡ before) × (ix' ≡ ix) × (list' ≡ list) × (out' ≡ out)
+RulesOut false m t before after ix ix' list list' out out' r =
+    CountOut m t before after ix ix' list list' out out' r
 
 -- "4 to 7 for the model", 12 and 17, after its 2 and 3: "A refusal, here and in every later tool, is its number alone."
 unfoldable pub modelRefusal : List ℕ → Option ℕ

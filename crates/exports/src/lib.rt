@@ -1,11 +1,11 @@
-// The library for C and Rust: six functions on numbers and slices. None has a requires; that the areas lent are there
+// The library for C and Rust: seven functions on numbers and slices. None has a requires; that the areas lent are there
 // is the caller's to see to. include/cantivorex.h declares them for C.
 ghost use Prim.Native.Nat.{_≤_};
 ghost use mathlib.Core.Path.{_≡_};
 ghost use mathlib.Core.List.{[], _∷_};
 ghost use lib.ListN.{length};
 ghost use Rattle.exports.specs.Exports.{ChecksOut, ChecksIndexedOut, ClosesOut, ClosesIndexedOut};
-ghost use Rattle.exports.specs.Exports.{CountsOut, PartOut};
+ghost use Rattle.exports.specs.Exports.{RulesOut, CountsOut, PartOut};
 ghost use Rattle.exports.specs.Exports.{shorter, values, over};
 ghost use Rattle.files.specs.Answers.{partOf};
 use checking::Verdict;
@@ -17,6 +17,7 @@ use files::Part;
 use files::both;
 use files::held;
 use files::model;
+use firing::Fired;
 
 // How many values a verdict has.
 const VALUES: usize = 10;
@@ -135,6 +136,37 @@ pub extern "C" fn cantivorex_close_indexed(
             0
         }
         Crossed::Refused(number) => number,
+    }
+}
+
+// Every rule that fires in the last state reached: 0, with how many in the first entry of `out` and their numbers at
+// the front of `list`, or a refusal's number, with nothing changed. Without room for the count the answer is 1.
+#[no_mangle]
+pub extern "C" fn cantivorex_rules(
+    model: &[u8],
+    trace: &[u8],
+    state: &mut [u8],
+    table: &mut [u16],
+    names: &mut [u8],
+    index: &mut [u16],
+    list: &mut [u16],
+    out: &mut [u64],
+) -> u8
+    ensures { λ r. ⌜ RulesOut (shorter (now (out .entry)) 1) (now (model .entry)) (now (trace .entry))
+        (record { state = now (state .entry); table = now (table .entry); names = now (names .entry) })
+        (record { state = now (state .exit); table = now (table .exit); names = now (names .exit) })
+        (now (index .entry)) (now (index .exit)) (now (list .entry)) (now (list .exit)) (now (out .entry))
+        (now (out .exit)) r ⌝ }
+{
+    if out.len() < 1 {
+        return 1;
+    }
+    match firing::rules(model, trace, state, table, names, index, list) {
+        Fired::Count(n) => {
+            out[0] = n as u64;
+            0
+        }
+        Fired::Refused(number) => number,
     }
 }
 

@@ -26,6 +26,18 @@ fn main() {
     println!("\nWhole checks by an index, against the same without one");
     head();
     indexed_checks(&desk);
+    println!("\nListing the rules that fire, the check taken off, against a plain loop over the same bytes");
+    head();
+    for (name, model) in listings() {
+        listing(name, &write_model(&model));
+    }
+    println!(
+        "\nThe whole call, against the plain reader, a plain worklist and that loop: judging on both sides"
+    );
+    head();
+    for (name, model) in listings() {
+        whole_listing(name, &write_model(&model));
+    }
     println!("\nHow the time grows with the body places: judging, index and closing");
     indexed_growth();
     println!(
@@ -212,6 +224,61 @@ fn indexed_growth() {
     }
 }
 
+/// Listing by itself: what the library takes for the same pair without listing is taken off. There is no step.
+fn listing(name: &str, model: &[u8]) {
+    let (mut one, mut two, trace) = (Lent::new(), Lent::new(), write_trace(0, &[]));
+    let (mut other, mut list) = (Lent::new(), [0; 2_048]);
+    other.indexed(model, &trace);
+    let mut with = || one.rules(black_box(model), &trace);
+    let mut without = || two.indexed(black_box(model), &trace).rounds as u64;
+    let mut plain =
+        || plain::firing(black_box(model), &other.table, &other.names, &mut list) as u64;
+    assert_eq!(with(), plain(), "{name}");
+    let [with, without, plain] = best([&mut with, &mut without, &mut plain]);
+    row(name, with - without, plain);
+}
+
+/// The same with judging, index and closing on both sides.
+fn whole_listing(name: &str, model: &[u8]) {
+    let (state, mut worklist) = (state(model), Worklist::default());
+    let (mut table, mut list, mut one) = ([0; 4_096], [0; 2_048], Lent::new());
+    let (mut names, trace) = ([0; 128], write_trace(0, &[]));
+    // The names in use at the start, which only some rows have.
+    one.indexed(model, &trace);
+    names.copy_from_slice(&one.names);
+    let ours = || one.rules(black_box(model), &trace);
+    let theirs = || {
+        assert_eq!(plain::judge(black_box(model)), 0);
+        worklist.build(clauses(model));
+        worklist.close(&state, &mut table);
+        plain::firing(model, &table, &names, &mut list) as u64
+    };
+    race(name, ours, theirs);
+}
+
+/// Full files of 2,048 rules with six facts in P and five in N, some over clauses that give what they ask for, and of
+/// rules with names.
+fn listings() -> Vec<(&'static str, Model)> {
+    let of = |pos: std::ops::Range<u16>, neg: std::ops::Range<u16>| {
+        let rule = Rule { pos: pos.collect(), neg: neg.collect(), ..Rule::default() };
+        let initial = (0..100).chain([2_004]).collect();
+        Model { rules: vec![rule; 2_048], ..with(4_096, initial, vec![]) }
+    };
+    let clauses = (0..60).map(|k| Clause { head: 2_000 + k, body: vec![k, k + 1] }).collect();
+    let makes = |k: u16| Rule { names: (k % 512..k % 512 + 10).collect(), ..Rule::default() };
+    let named = Model { rules: (0..2_048).map(makes).collect(), ..with(40, vec![0], vec![]) };
+    vec![
+        ("2,048 rules of 11 conditions, all fire", of(10..16, 3_000..3_005)),
+        ("2,048 rules of 11 conditions, the last is not met", of(10..16, 2_000..2_005)),
+        ("2,048 rules of 11 conditions, the first is not met", of(2_100..2_106, 3_000..3_005)),
+        (
+            "2,048 rules of 11 derived conditions",
+            Model { clauses, ..of(2_010..2_016, 3_000..3_005) },
+        ),
+        ("2,048 rules of 10 names", as_version(3, named)),
+    ]
+}
+
 fn head() {
     println!("{:58} {:>13} {:>13} {:>7}", "", "library, ns", "rival, ns", "ratio");
 }
@@ -254,17 +321,26 @@ struct Lent {
     table: [u16; 4_096],
     names: [u8; 128],
     index: Vec<u16>,
+    list: Vec<u16>,
 }
 
 impl Lent {
     fn new() -> Lent {
         let index = vec![0; cantivorex::INDEX_ENTRIES];
-        Lent { state: [0; 512], table: [0; 4_096], names: [0; 128], index }
+        let list = vec![0; cantivorex::LIST_ENTRIES];
+        Lent { state: [0; 512], table: [0; 4_096], names: [0; 128], index, list }
     }
 
     fn indexed(&mut self, model: &[u8], trace: &[u8]) -> cantivorex::Verdict {
-        let Lent { state, table, names, index } = self;
+        let Lent { state, table, names, index, .. } = self;
         cantivorex::check_indexed(model, trace, state, table, names, index)
+    }
+
+    /// How many rules fire.
+    fn rules(&mut self, model: &[u8], trace: &[u8]) -> u64 {
+        let Lent { state, table, names, index, list } = self;
+        let count = cantivorex::rules(model, trace, state, table, names, index, list);
+        count.expect("listed") as u64
     }
 
     fn by_size(&mut self, model: &[u8], trace: &[u8]) -> cantivorex::Verdict {

@@ -75,7 +75,7 @@ fn failed(pair: &Pair, index: u64) -> i32 {
 }
 
 /// One pair: a check with and without room for the verdict, closing by itself, both with an index and
-/// without one, three places, and what the model has.
+/// without one, the rules that fire, three places, and what the model has.
 fn compare(pair: &Pair, seed: u64, index: u64) -> Result<(Verdict, Indexed), String> {
     let Pair { model, trace, state_len, .. } = pair;
     let mut rng = Rng::new(seed ^ 0xC0FFEE, index);
@@ -89,9 +89,14 @@ fn compare(pair: &Pair, seed: u64, index: u64) -> Result<(Verdict, Indexed), Str
     start.truncate(if *state_len < 512 { *state_len } else { start.len() });
     let (closed, plain) =
         both::close_forms(model, &start, &mut table.clone(), &mut places.clone())?;
+    let firing = {
+        let (mut state, mut table, mut names) = (state.clone(), table.clone(), names.clone());
+        let (places, list) = (&mut places.clone(), &mut pair.list(seed, index));
+        both::rules(model, trace, &mut state, &mut table, &mut names, places, list)?
+    };
     let (with, verdict) =
         both::check_forms(model, trace, &mut state, &mut table, &mut names, &mut places)?;
-    let indexed = Indexed { number: with.number, closed, plain };
+    let indexed = Indexed { number: with.number, closed, plain, firing, table, names };
     for _ in 0..3 {
         let mark = [0, 0, 1, 1, 2, rng.draw() as u8][rng.below(6)];
         let file = if mark == 1 { trace } else { model };
@@ -109,7 +114,7 @@ fn somewhere(rng: &mut Rng, len: usize) -> usize {
     [rng.below(len + 1), rng.below(len + 1), near, usize::MAX - rng.below(2)][rng.below(4)]
 }
 
-/// Both verdicts and counts, for a look at a pair that differs.
+/// Both verdicts, rules and counts, for a look at a pair that differs.
 fn answers(pair: &Pair, seed: u64, index: u64) {
     let Pair { model, trace, .. } = pair;
     let (mut state, mut table, mut names) = pair.buffers(seed, index);
@@ -120,9 +125,24 @@ fn answers(pair: &Pair, seed: u64, index: u64) {
     let ours =
         cantivorex::check_indexed(model, trace, &mut state, &mut table, &mut names, &mut places);
     println!("library {ours:?} with an index of {}", places.len());
+    println!("library {:?}", listed(pair, seed, index, cantivorex::rules));
+    println!("second  {:?}", listed(pair, seed, index, second::rules_api));
     println!("library {:?}", cantivorex::count(model));
     println!("second  {:?}", second::count_api(model));
 }
+
+/// How many rules fire, and as many entries of the list.
+fn listed(pair: &Pair, seed: u64, index: u64, rules: Rules) -> Result<Vec<u16>, u8> {
+    let (mut state, mut table, mut names) = pair.buffers(seed, index);
+    let (mut places, mut list) = (pair.index(seed, index), pair.list(seed, index));
+    let (model, trace) = (&pair.model, &pair.trace);
+    let count = rules(model, trace, &mut state, &mut table, &mut names, &mut places, &mut list)?;
+    Ok(list.into_iter().take(count).collect())
+}
+
+/// A list of rules, of either program.
+type Rules =
+    fn(&[u8], &[u8], &mut [u8], &mut [u16], &mut [u8], &mut [u16], &mut [u16]) -> Result<usize, u8>;
 
 fn hex_file(name: &str, bytes: &[u8]) {
     println!("{name}, {} bytes:", bytes.len());

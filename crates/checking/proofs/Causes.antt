@@ -12,7 +12,8 @@ use Rattle.meaning.specs.Run.Ending.{attack, blocked, notMet, upheld}
 use Rattle.files.specs.Files.{Blamed, pairFault}
 use Rattle.files.specs.Answers.{blamedNumber}
 use Rattle.causes.proofs.Exact.{number-exactly}
-use Rattle.checking.specs.Verdict.{Lent, noSpace, stopNumber, numberOf, factIn, outcome}
+use Rattle.stepping.specs.Conditions.{stopNumber, factIn}
+use Rattle.checking.specs.Verdict.{Lent, noSpace, numberOf, outcome}
 use Rattle.checking.specs.Promises.{Stopping, endNumber, Given}
 use Rattle.causes.specs.Causes.{Refusing}
 

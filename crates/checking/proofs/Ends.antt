@@ -29,11 +29,12 @@ use Rattle.files.proofs.Aims.{formula-in}
 use Rattle.files.proofs.Traces.{pair-shape, pair-named, pair-step-known, pair-goal-known}
 use Rattle.files.proofs.Lists.{added-below}
 use Rattle.closing.specs.Closing.{numbered, Filled, ClosesUnder}
-use Rattle.checking.specs.Verdict.{Lent, namesIn, roundIn, outcome, Left}
-use Rattle.checking.specs.Running.{unmetIn, endingOf, reached, counted, aimed, Asked, StepsTo, KnownIn}
+use Rattle.stepping.specs.Conditions.{roundIn, unmetIn, KnownIn, namesIn}
+use Rattle.checking.specs.Verdict.{Lent, outcome, Left}
+use Rattle.checking.specs.Running.{endingOf, reached, counted, aimed, Asked, StepsTo}
 use Rattle.checking.specs.Running.{Numbers, EndsAs}
-use Rattle.checking.specs.declared.conditions.Condition.the-variants as condition
-use Rattle.checking.specs.declared.conditions.Unmet.the-variants as found
+use Rattle.stepping.specs.declared.conditions.Condition.the-variants as condition
+use Rattle.stepping.specs.declared.conditions.Unmet.the-variants as found
 use Rattle.checking.specs.declared.running.Ending.the-variants as ends
 use Rattle.checking.specs.declared.running.Steps.{Steps}
 use Rattle.checking.proofs.Stepwise.{closure-shown}

@@ -1,5 +1,3 @@
-pub mod Changing
-pub mod Looking
 pub mod Aiming
 pub mod Stepwise
 pub mod Ends
@@ -10,7 +8,6 @@ pub mod Indexed
 pub mod Causes
 pub mod Parts
 pub mod Naming
-pub mod Unique
 pub mod Theorems
 pub mod Names
 pub mod Past

@@ -25,7 +25,8 @@ use Rattle.facts.proofs.Laws.{Bytes, members-at}
 use Rattle.files.specs.Files.{modelOf, traceOf}
 use Rattle.files.proofs.Laws.{none-named, none-made}
 use Rattle.causes.proofs.Versions.{no-badname}
-use Rattle.checking.specs.Verdict.{Lent, namesIn, stopNumber, numberOf, factIn, factOf, outcome, ran, Checked}
+use Rattle.stepping.specs.Conditions.{stopNumber, factIn, namesIn}
+use Rattle.checking.specs.Verdict.{Lent, numberOf, factOf, outcome, ran, Checked}
 use Rattle.checking.specs.Promises.{verdict, WellFormed, FreshSteps, UsedAt}
 use Rattle.checking.specs.declared.Verdict.{Verdict}
 use Rattle.checking.proofs.Theorems.{first-not-met, left, ran-formed, numbers, values, kinds}

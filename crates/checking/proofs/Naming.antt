@@ -14,7 +14,7 @@ use Rattle.meaning.specs.Published.{HC}
 use Rattle.meaning.specs.Promises.{FirstUnmet}
 use Rattle.meaning.proofs.Meeting.{unmet-some, first-used}
 use Rattle.meaning.proofs.Theorems.{closure-is-HC, HC-unique}
-use Rattle.checking.specs.Verdict.{stopNumber, factIn, kindIn, roundIn}
+use Rattle.stepping.specs.Conditions.{stopNumber, factIn, kindIn, roundIn}
 use Rattle.checking.specs.Promises.{Named}
 use Rattle.checking.specs.declared.Verdict.{Verdict}
 

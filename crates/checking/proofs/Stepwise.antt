@@ -22,9 +22,10 @@ use Rattle.files.proofs.Laws.{clauses-bound}
 use Rattle.closing.specs.Closing.{numbered, ClosesUnder}
 use Rattle.closing.proofs.Laws.{filled-numbered}
 use Rattle.closing.proofs.Alone.{bounded}
-use Rattle.checking.specs.Stepping.{Holds}
-use Rattle.checking.specs.Verdict.{Lent, namesIn}
-use Rattle.checking.specs.Running.{unmetIn, reached, stateIn, counted, aimed, Keeps, StepsTo}
+use Rattle.stepping.specs.Conditions.{namesIn, unmetIn}
+use Rattle.stepping.specs.Stepping.{Holds}
+use Rattle.checking.specs.Verdict.{Lent}
+use Rattle.checking.specs.Running.{reached, stateIn, counted, aimed, Keeps, StepsTo}
 use Rattle.checking.specs.declared.running.Steps.{Steps}
 
 module _ (m : List ℕ) (fine : shapeFault m ≡ none) where

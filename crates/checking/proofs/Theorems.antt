@@ -32,7 +32,8 @@ use Rattle.causes.specs.Causes.{RightPair, Refusing}
 use Rattle.causes.proofs.Causes.{pair-cause, cause-range}
 use Rattle.causes.proofs.Exact.{right-exactly}
 use Rattle.closing.proofs.Laws.{filled-unique}
-use Rattle.checking.specs.Verdict.{Lent, noSpace, stopNumber, numberOf, factOf, kindOf, roundOf, refused, blamed}
+use Rattle.stepping.specs.Conditions.{stopNumber}
+use Rattle.checking.specs.Verdict.{Lent, noSpace, numberOf, factOf, kindOf, roundOf, refused, blamed}
 use Rattle.checking.specs.Verdict.{ran, outcome, refusal, verdictOf, Left, Buffers, Checked}
 use Rattle.checking.specs.Promises.{verdict, WellFormed, Stopping, endNumber, Given, AtFault, Values}
 use Rattle.checking.specs.Promises.{Kinds, InFile}

@@ -8,11 +8,12 @@ use Rattle.meaning.specs.Run.Ending.{attack, blocked, notMet, upheld}
 use Rattle.files.specs.Files.{modelOf, traceOf}
 use Rattle.files.specs.Answers.{entryPart, goalPart}
 use Rattle.files.specs.declared.Part.{Part}
-use Rattle.checking.specs.Verdict.{nothing, stopNumber, numberOf, factIn, factOf, kindIn, kindOf, roundIn}
+use Rattle.stepping.specs.Conditions.{stopNumber, factIn, kindIn, roundIn, conditionOf}
+use Rattle.checking.specs.Verdict.{nothing, numberOf, factOf, kindOf}
 use Rattle.checking.specs.Verdict.{roundOf, partFor, ran}
-use Rattle.checking.specs.Running.{conditionOf, endingOf, Shows}
+use Rattle.checking.specs.Running.{endingOf, Shows}
 use Rattle.checking.specs.declared.Verdict.{Verdict}
-use Rattle.checking.specs.declared.conditions.Condition.the-variants as condition
+use Rattle.stepping.specs.declared.conditions.Condition.the-variants as condition
 use Rattle.checking.specs.declared.running.Ending.the-variants as ends
 use Rattle.checking.specs.declared.running.Ended.{Ended}
 

@@ -1,4 +1,3 @@
-pub mod Stepping
 pub mod Verdict
 pub mod Running
 pub mod Promises

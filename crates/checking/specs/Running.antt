@@ -11,7 +11,6 @@ use Rattle.meaning.specs.Past.{History}
 use Rattle.meaning.specs.Model.{Model, Aim, State, aimOf, start}
 use Rattle.meaning.specs.Model.Aim.{state, formula}
 use Rattle.meaning.specs.Run.{Condition, Reached, Ending, Outcome, reach, askedOf}
-use Rattle.meaning.specs.Run.Condition.{positive, negative, unused}
 use Rattle.meaning.specs.Run.Ending.{attack, blocked, notMet, upheld}
 use Rattle.meaning.specs.Rounds.{rounds, roundNumber}
 use Rattle.facts.specs.Facts.{members, Kept}
@@ -20,24 +19,13 @@ use Rattle.files.specs.Answers.{countsOf}
 use Rattle.files.specs.declared.Counts.{Counts}
 use Rattle.closing.specs.Closing.{Filled}
 use Rattle.past.specs.Remembering.{Remembers}
-use Rattle.checking.specs.Verdict.{Lent, namesIn, noSpace, outcome, Left}
-use Rattle.checking.specs.declared.conditions.Condition.the-variants as condition
-use Rattle.checking.specs.declared.conditions.Unmet.the-variants as found
+use Rattle.stepping.specs.Conditions.{namesIn, conditionOf, unmetIn}
+use Rattle.checking.specs.Verdict.{Lent, noSpace, outcome, Left}
 use Rattle.checking.specs.declared.running.Ending.the-variants as ending
 use Rattle.checking.specs.declared.running.Steps.{Steps}
 use Rattle.checking.specs.declared.running.Ended.{Ended}
 
 -- ---- answers
-
-unfoldable pub conditionOf : condition.the-data → Condition
-conditionOf (condition.Positive f) = positive f
-conditionOf (condition.Negative f) = negative f
-conditionOf (condition.Unused n) = unused n
-
-unfoldable pub unmetIn : found.the-data → Option Condition
-unfolding conditionOf
-unmetIn found.Nowhere = none
-unmetIn (found.At c) = some (conditionOf c)
 
 unfoldable pub endingOf : ending.the-data → Ending
 unfolding conditionOf
@@ -45,12 +33,6 @@ endingOf ending.Attack = attack
 endingOf (ending.Blocked c) = blocked (conditionOf c)
 endingOf (ending.NotMet c) = notMet (conditionOf c)
 endingOf ending.Upheld = upheld
-
--- a table has an entry for the condition's fact, where it is judged by the table
-unfoldable pub KnownIn : Condition → Type 0
-KnownIn (positive f) = f < 4096
-KnownIn (negative f) = f < 4096
-KnownIn (unused n) = Unit
 
 -- ---- the run
 

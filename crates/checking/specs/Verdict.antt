@@ -7,19 +7,18 @@ use mathlib.Core.List.{List}
 use mathlib.Core.Option.{Option, none, some, Option·map}
 use lib.Dec.{ltb}
 use lib.ListN.{length}
-use Rattle.sets.specs.Sets.{Facts}
 use Rattle.meaning.specs.Model.{Model}
 use Rattle.meaning.specs.Model.{aims}
 use Rattle.meaning.specs.Rounds.{roundNumber}
-use Rattle.meaning.specs.Run.{Condition, Ending, Outcome, run}
-use Rattle.meaning.specs.Run.Condition.{positive, negative, unused}
+use Rattle.meaning.specs.Run.{Ending, Outcome, run}
 use Rattle.meaning.specs.Run.Ending.{attack, blocked, notMet, upheld}
-use Rattle.facts.specs.Facts.{within, members, Kept}
+use Rattle.facts.specs.Facts.{members, Kept}
 use Rattle.records.specs.Records.{given, _orElse_}
 use Rattle.files.specs.Files.{Blamed, modelOf, traceOf, filesFault, stepsFault, pairFault}
 use Rattle.files.specs.Answers.{blamedNumber, blamedPart, entryPart, goalPart}
 use Rattle.files.specs.declared.Part.{Part}
 use Rattle.closing.specs.Closing.{Filled, noRoom, Index, noPlaces}
+use Rattle.stepping.specs.Conditions.{namesIn, stopNumber, factIn, kindIn, roundIn}
 use Rattle.checking.specs.declared.Verdict.{Verdict}
 
 -- ---- what is lent
@@ -30,10 +29,6 @@ pub record Lent : Type 0 where
   pub state : List ℕ
   pub table : List ℕ
   pub names : List ℕ
-
--- "the new bytes hold the last state's used names, laid out like facts"
-abbrev pub namesIn : List ℕ → Facts
-namesIn = within 128
 
 -- 1: "state buffer under 512 bytes or round table under 4,096 entries"; of the names' bytes, "ROOM covers them"
 unfoldable pub noSpace : Lent → Bool
@@ -64,12 +59,6 @@ refusal m t l = given (noSpace l) (refused 1 nothing) orElse Option·map blamed 
 
 -- ---- the numbers and values of each ending
 
--- a step that can't fire: 10 BLOCKED; "a used one is 13 USED" (document 02, wish 9)
-unfoldable pub stopNumber : Condition → ℕ
-stopNumber (positive f) = 10
-stopNumber (negative f) = 10
-stopNumber (unused n) = 13
-
 -- 0 ATTACK, 10 BLOCKED, 11 NOATTACK, 13 USED; "ATTACK exactly if the formula is false in the last state" (document 02,
 -- wish 11), so that a formula that is true is 11
 unfoldable pub numberOf : Ending → ℕ
@@ -79,12 +68,6 @@ numberOf (blocked c) = stopNumber c
 numberOf (notMet c) = 11
 numberOf upheld = 11
 
--- a condition's fact; "the verdict's fact being the first used name"
-unfoldable pub factIn : Condition → ℕ
-factIn (positive f) = f
-factIn (negative f) = f
-factIn (unused n) = n
-
 -- "for 10 and 11 the first unmet condition ..; otherwise 65,535"; for a formula "NOATTACK then has no fact" (wish 11)
 unfoldable pub factOf : Ending → ℕ
 unfolding factIn
@@ -93,13 +76,6 @@ factOf (blocked c) = factIn c
 factOf (notMet c) = factIn c
 factOf upheld = 65535
 
--- document 02, wish 7: "whether the unmet one was positive or negative": 1 is positive, 2 negative; of a used name,
--- "kind and round none"
-unfoldable pub kindIn : Condition → ℕ
-kindIn (positive f) = 1
-kindIn (negative f) = 2
-kindIn (unused n) = 0
-
 -- 0 "where there is no value"
 unfoldable pub kindOf : Ending → ℕ
 unfolding kindIn
@@ -107,12 +83,6 @@ kindOf attack = 0
 kindOf (blocked c) = kindIn c
 kindOf (notMet c) = kindIn c
 kindOf upheld = 0
-
--- "if negative, the round in which its fact arose", by the round numbers of the state in which it was judged
-unfoldable pub roundIn : (ℕ → ℕ) → Condition → ℕ
-roundIn number (positive f) = 65535
-roundIn number (negative f) = number f
-roundIn number (unused n) = 65535
 
 -- 65,535 "where there is no value"
 unfoldable pub roundOf : (ℕ → ℕ) → Ending → ℕ

@@ -1,13 +1,10 @@
 // The verdict on a pair of files, and what it leaves in the lent buffers.
-// conditions: the test of conditions in a round table and used names; stepping: how a state changes; running: the run
-// of a judged pair.
+// running: the run of a judged pair.
 ghost use mathlib.Core.Path.{_≡_};
 ghost use Rattle.checking.specs.Verdict.{Checked, CheckedIndexed, refused, nothing, noSpace};
 ghost use Rattle.checking.specs.Running.{Passed};
 
-pub mod conditions;
 pub mod running;
-pub mod stepping;
 
 use files::Counts;
 use files::Pair;

@@ -12,19 +12,19 @@ ghost use Rattle.sections.specs.Sections.{fits, sectionAt};
 ghost use Rattle.files.specs.Files.{pairFault, modelOf, entriesOf, traceOf};
 ghost use Rattle.files.specs.Known.{GoalCodes};
 ghost use Rattle.closing.specs.Closing.{numbered, Way, IndexHolds, noPlaces};
-ghost use Rattle.checking.specs.Verdict.{namesIn, outcome, ran, Left};
+ghost use Rattle.stepping.specs.Conditions.{namesIn};
+ghost use Rattle.checking.specs.Verdict.{outcome, ran, Left};
 ghost use Rattle.checking.specs.Running.{Ready, stateIn, StepsTo, EndsAs, Shows, Numbers, endingOf};
 ghost use Rattle.checking.specs.Running.{aimed, Keeps, Asked};
 use super::Verdict;
-use super::conditions;
-use super::conditions::Condition;
-use super::conditions::Unmet;
-use super::stepping;
 use files::Part;
 use files::held;
 use files::trace;
 use records::Kind;
 use sections::Role;
+use stepping::conditions;
+use stepping::conditions::Condition;
+use stepping::conditions::Unmet;
 
 // Where the steps led: how many fired, the rounds counted, and the condition that blocks the next step.
 pub struct Steps {

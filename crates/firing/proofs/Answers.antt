@@ -18,7 +18,8 @@ use Rattle.files.proofs.Answers.{Blames}
 use Rattle.closing.specs.Closing.{numbered, IndexHolds, Index, noPlaces}
 use Rattle.closing.proofs.Laws.{filled-numbered}
 use Rattle.closing.proofs.Alone.{bounded}
-use Rattle.checking.specs.Verdict.{Lent, namesIn, noSpace, outcome, Left}
+use Rattle.stepping.specs.Conditions.{namesIn}
+use Rattle.checking.specs.Verdict.{Lent, noSpace, outcome, Left}
 use Rattle.firing.specs.Firing.{firesBy, numbersOf, firing, listShort, rulesRefusal, answer, numbersIn}
 use Rattle.firing.specs.Firing.{LeftAsChecked, FiresIn, Numbered}
 use Rattle.firing.specs.declared.Fired.{Fired}

@@ -9,17 +9,17 @@ ghost use Rattle.records.specs.Records.{records};
 ghost use Rattle.sections.specs.declared.Role.{Role};
 ghost use Rattle.files.specs.Files.{sectionOf, ruleIn, modelOf, shapeFault};
 ghost use Rattle.closing.specs.Closing.{numbered};
-ghost use Rattle.checking.specs.Verdict.{namesIn};
+ghost use Rattle.stepping.specs.Conditions.{namesIn};
 ghost use Rattle.checking.specs.Running.{Passed};
 ghost use Rattle.firing.specs.Firing.{firesBy, numbersOf, Numbered, FiresIn};
-use checking::conditions;
-use checking::conditions::Unmet;
 use checking::running;
 use files::Counts;
 use files::Pair;
 use files::both;
 use files::held;
 use sections::Role;
+use stepping::conditions;
+use stepping::conditions::Unmet;
 
 // How many rules fire, or a refusal's number.
 pub enum Fired {

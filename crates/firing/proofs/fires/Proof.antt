@@ -6,8 +6,7 @@ use denote.Ref.{now}
 use Rattle.meaning.specs.Run.{unmet, conditions}
 use Rattle.files.specs.Files.{ruleIn}
 use Rattle.closing.specs.Closing.{numbered}
-use Rattle.checking.specs.Verdict.{namesIn}
-use Rattle.checking.specs.Running.{unmetIn, conditionOf}
+use Rattle.stepping.specs.Conditions.{namesIn, unmetIn, conditionOf}
 use Rattle.firing.proofs.Records.{rule-cut, list-known, lists-are, fires-none, fires-some}
 use borrow.Author.Needs.{needs}
 use Rattle.firing.proofs.fires.Statement.{statement}

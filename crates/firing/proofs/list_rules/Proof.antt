@@ -13,7 +13,7 @@ use Rattle.records.proofs.Sections.{record-size, records-at, records-end}
 use Rattle.sections.specs.declared.Role.the-variants.{Rules}
 use Rattle.files.specs.Files.{sectionOf, ruleIn, modelOf}
 use Rattle.closing.specs.Closing.{numbered}
-use Rattle.checking.specs.Verdict.{namesIn}
+use Rattle.stepping.specs.Conditions.{namesIn}
 use Rattle.firing.specs.Firing.{firesBy}
 use Rattle.firing.proofs.Numbers.{Listing, listing-start, listing-room, listing-hit, listing-miss}
 use Rattle.firing.proofs.Numbers.{listing-end, listing-long}

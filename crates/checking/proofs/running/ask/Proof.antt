@@ -9,7 +9,7 @@ use Prim.Native.Nat.{_<_, _≤_}
 use Rattle.meaning.specs.Run.Ending.{attack, upheld}
 use Rattle.files.proofs.Formulas.{codes-state}
 use Rattle.closing.specs.Closing.{numbered}
-use Rattle.checking.specs.Verdict.{namesIn}
+use Rattle.stepping.specs.Conditions.{namesIn}
 use Rattle.checking.specs.Running.{endingOf, aimed, Asked}
 use Rattle.checking.proofs.Aiming.{asked-alone, asked-formula}
 use borrow.Author.Needs.{needs}

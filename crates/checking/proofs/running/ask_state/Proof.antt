@@ -21,8 +21,8 @@ use Rattle.files.proofs.Aims.{state-in, state-there}
 use Rattle.files.proofs.Lists.{goal-record, goal-known, goal-P, goal-N}
 use Rattle.files.proofs.Traces.{pair-shape, pair-fits, pair-entries}
 use Rattle.closing.specs.Closing.{numbered}
-use Rattle.checking.specs.Verdict.{namesIn}
-use Rattle.checking.specs.Running.{unmetIn, endingOf}
+use Rattle.stepping.specs.Conditions.{namesIn, unmetIn}
+use Rattle.checking.specs.Running.{endingOf}
 use Rattle.checking.proofs.Ends.{asked-met, asked-unmet}
 use borrow.Author.Needs.{needs}
 use Rattle.checking.proofs.running.ask_state.Statement.{statement}

@@ -1,7 +1,7 @@
 -- `running::search` meets its contract: at the head of the outer loop the buffers hold the state reached (`On`); along
 -- the conditions of a step's rule the first unmet one is among those still ahead (`Looking`).
 mod Places
-use Rattle.checking.specs.Running.{unmetIn}
+use Rattle.stepping.specs.Conditions.{unmetIn}
 use mathlib.Core.Path.{refl, sym, ap, _∙_}
 use mathlib.Core.List.{[]}
 use mathlib.Core.Option.{none, some}
@@ -19,8 +19,8 @@ use Rattle.files.specs.Files.{sectionOf}
 use Rattle.files.proofs.Laws.{persistent-ascending, persistent-in}
 use Rattle.files.proofs.Lists.{rule-there, rule-A}
 use Rattle.files.proofs.Traces.{pair-shape, pair-fits, pair-entries}
-use Rattle.checking.proofs.Looking.{asks-length, asks-known, looking-start, looking-hit}
-use Rattle.checking.proofs.Looking.{looking-next, looking-end}
+use Rattle.stepping.proofs.Looking.{asks-length, asks-known, looking-start, looking-hit}
+use Rattle.stepping.proofs.Looking.{looking-next, looking-end}
 use Rattle.checking.proofs.Aiming.{keeps-next}
 use Rattle.checking.proofs.Stepwise.{closure-shown, on-start, on-fired, on-stop, on-end}
 use Rattle.checking.proofs.running.search.Proof.Places.{μ-loop, μ-search, Inv-loop, Inv-search, start, model, trace, shape, on, few-steps}

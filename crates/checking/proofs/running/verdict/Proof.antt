@@ -11,8 +11,9 @@ use Rattle.meaning.specs.Model.{aims}
 use Rattle.files.specs.Files.{pairFault, modelOf, traceOf}
 use Rattle.files.specs.Answers.{goalPart}
 use Rattle.files.proofs.Traces.{pair-shape, pair-fits, pair-entries, pair-few, pair-goal-known}
-use Rattle.checking.specs.Running.{conditionOf, endingOf, KnownIn}
-use Rattle.checking.specs.declared.conditions.Condition.the-variants as condition
+use Rattle.stepping.specs.Conditions.{conditionOf, KnownIn}
+use Rattle.checking.specs.Running.{endingOf}
+use Rattle.stepping.specs.declared.conditions.Condition.the-variants as condition
 use Rattle.checking.specs.declared.running.Ending.the-variants as ends
 use Rattle.checking.proofs.Ends.{ending-known, round-is}
 use Rattle.checking.proofs.Verdicts.{ran-attack, ran-blocked, ran-notMet, ran-upheld}

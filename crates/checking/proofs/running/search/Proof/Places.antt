@@ -1,6 +1,7 @@
 -- What is known in the course of `running::search`: its invariants, and at each of its places the state, the table, the
 -- step's rule and its lists.
-use Rattle.checking.specs.Verdict.{Lent, namesIn}
+use Rattle.stepping.specs.Conditions.{namesIn}
+use Rattle.checking.specs.Verdict.{Lent}
 use Prim.Native.Nat.{ℕ, _+_, _-_, _*_, _/_, _≤_, _<_}
 use mathlib.Core.Path.{_≡_, sym, ap, _∙_, subst}
 use mathlib.Core.List.{List, []}
@@ -23,7 +24,7 @@ use Rattle.files.specs.Known.{Known}
 use Rattle.files.proofs.Lists.{rule-in, rule-record, rule-known, rule-P, rule-N}
 use Rattle.files.proofs.Traces.{pair-shape, pair-entries, pair-few, pair-step, pair-step-known}
 use Rattle.closing.specs.Closing.{numbered, ClosesUnder}
-use Rattle.checking.proofs.Looking.{asks, asks-length, Looking}
+use Rattle.stepping.proofs.Looking.{asks, asks-length, Looking}
 use Rattle.checking.proofs.Stepwise.{closure-shown, rounds-few, asked, On}
 use Rattle.checking.proofs.running.search.Tie as tie
 

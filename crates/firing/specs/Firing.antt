@@ -10,7 +10,7 @@ use lib.ListN.{length, drop}
 use Rattle.sets.specs.Sets.{Facts, _∈_}
 use Rattle.meaning.specs.Model.{Rule, Model, State, aims}
 use Rattle.meaning.specs.Rounds.{closure}
-use Rattle.meaning.specs.Run.{unmet, conditions}
+use Rattle.meaning.specs.Run.{Condition, unmet, conditions}
 use Rattle.meaning.specs.Published.{Transition}
 use Rattle.records.specs.Records.{given, _orElse_}
 use Rattle.files.specs.Files.{modelOf, filesFault, stepsFault}
@@ -90,6 +90,11 @@ FiresIn m t before after ix ix' list list' r =
     Fires (rulesRefusal m t before ix list) m t before after ix ix' list list' r
 
 -- ---- between functions. No promise to the outside rests on this.
+
+-- no condition is unmet
+unfoldable pub nowhere : Option Condition → Bool
+nowhere none = true
+nowhere (some c) = false
 
 -- the numbers stand at the front of the list, and there are so many
 pub record Numbered (ks list list' : List ℕ) (n : ℕ) : Type 0 where

@@ -2,16 +2,19 @@
 // is blocked. The state is the one that the check leaves; a rule is judged by the check's own test of conditions.
 ghost use Prim.Native.Nat.{_≤_};
 ghost use mathlib.Core.Path.{_≡_};
+ghost use mathlib.Core.List.{map};
 ghost use mathlib.Core.Option.{none};
 ghost use lib.ListN.{length, getD};
 ghost use Rattle.sets.specs.Sets.{_∈_};
+ghost use Rattle.meaning.specs.Run.{unmet};
+ghost use Rattle.records.specs.Words.{words};
 ghost use Rattle.records.specs.Records.{records};
 ghost use Rattle.sections.specs.declared.Role.{Role};
 ghost use Rattle.files.specs.Files.{sectionOf, ruleIn, modelOf, shapeFault};
 ghost use Rattle.closing.specs.Closing.{numbered};
-ghost use Rattle.stepping.specs.Conditions.{namesIn};
+ghost use Rattle.stepping.specs.Conditions.{namesIn, ofKind, KnownList};
 ghost use Rattle.checking.specs.Running.{Passed};
-ghost use Rattle.firing.specs.Firing.{firesBy, numbersOf, Numbered, FiresIn};
+ghost use Rattle.firing.specs.Firing.{firesBy, numbersOf, Numbered, FiresIn, nowhere};
 use checking::running;
 use files::Counts;
 use files::Pair;
@@ -19,6 +22,7 @@ use files::both;
 use files::held;
 use sections::Role;
 use stepping::conditions;
+use stepping::conditions::Kind;
 use stepping::conditions::Unmet;
 
 // How many rules fire, or a refusal's number.
@@ -27,7 +31,20 @@ pub enum Fired {
     Refused(u8),
 }
 
-// Whether the rule that a record is fires, by the round numbers and the used names of a state.
+// Whether all conditions of a list of the kind are met, by the round numbers and the used names of a state.
+fn all_met(kind: Kind, list: &[u8], table: &[u16], names: &[u8]) -> bool
+    requires { ⌜ KnownList kind (now list) × (4096 ≤ length (now table)) ⌝ }
+    ensures { λ r. ⌜ r ≡ nowhere (unmet (numbered (now (table .entry))) (namesIn (now (names .entry)))
+        (map (ofKind kind) (words (now (list .entry))))) ⌝ }
+{
+    match conditions::first_of(kind, list, table, names) {
+        Unmet::Nowhere => true,
+        Unmet::At(_) => false,
+    }
+}
+
+// Whether the rule that a record is fires, by the round numbers and the used names of a state. A list is cut only where
+// those before it are met.
 fn fires(model: &[u8], rule: &[u8], table: &[u16], names: &[u8]) -> bool
     requires { ⌜ (shapeFault (now model) ≡ none) × (now rule ∈ records (sectionOf (now model) Role.Rules))
         × (4096 ≤ length (now table)) ⌝ }
@@ -35,12 +52,15 @@ fn fires(model: &[u8], rule: &[u8], table: &[u16], names: &[u8]) -> bool
         (ruleIn (getD (now (model .entry)) 0 0) (now (rule .entry))) ⌝ }
 {
     let p = held::rule_list(model, rule, 0);
-    let n = held::rule_list(model, rule, 1);
-    let made = held::made(model, rule);
-    match conditions::first_unmet(p, n, made, table, names) {
-        Unmet::Nowhere => true,
-        Unmet::At(_) => false,
+    if !all_met(Kind::Positive, p, table, names) {
+        return false;
     }
+    let n = held::rule_list(model, rule, 1);
+    if !all_met(Kind::Negative, n, table, names) {
+        return false;
+    }
+    let made = held::made(model, rule);
+    all_met(Kind::Unused, made, table, names)
 }
 
 // Writes the numbers of all rules that fire, by the round numbers and the used names of a state, to the front of the
@@ -57,11 +77,13 @@ fn list_rules(model: &[u8], table: &[u16], names: &[u8], list: &mut [u16]) -> us
     let mut n = 0;
     while at < rules.len() {
         let rule = records::record_at(rules, at);
+        // From its first bytes: the part's length comes of tests, for which the next place would wait.
+        let size = 2 + records::word_at(rule, 0);
         if fires(model, rule, table, names) {
             list[n] = k;
             n += 1;
         }
-        at += rule.len();
+        at += size;
         k += 1;
     }
     n

@@ -28,7 +28,7 @@ condition-unique (condition.Negative f) (condition.Unused g) e = let z : _≡_ {
 condition-unique (condition.Unused f) (condition.Positive g) e = let z : _≡_ {A = ℕ} 0 1 = cc in absurd (omega arith)
 condition-unique (condition.Unused f) (condition.Negative g) e = let z : _≡_ {A = ℕ} 0 1 = cc in absurd (omega arith)
 
--- The same for what `first_unmet` promises.
+-- The same for what `first_of` and `first_unmet` promise.
 pub unmet-unique : (x y : found.the-data) → unmetIn x ≡ unmetIn y → x ≡ y
 unfolding unmetIn
 unmet-unique found.Nowhere found.Nowhere e = refl

@@ -3,11 +3,13 @@
 use Prim.Native.Nat.{ℕ, _<_}
 use mathlib.Core.List.{List}
 use mathlib.Core.Option.{Option, none, some}
-use Rattle.sets.specs.Sets.{Facts}
+use Rattle.sets.specs.Sets.{Facts, _∈_}
 use Rattle.meaning.specs.Run.{Condition}
 use Rattle.meaning.specs.Run.Condition.{positive, negative, unused}
+use Rattle.records.specs.Words.{words}
 use Rattle.facts.specs.Facts.{within}
 use Rattle.stepping.specs.declared.conditions.Condition.the-variants as condition
+use Rattle.stepping.specs.declared.conditions.Kind.the-variants as kind
 use Rattle.stepping.specs.declared.conditions.Unmet.the-variants as found
 
 -- ---- what is asked
@@ -31,6 +33,17 @@ unfoldable pub KnownIn : Condition → Type 0
 KnownIn (positive f) = f < 4096
 KnownIn (negative f) = f < 4096
 KnownIn (unused n) = Unit
+
+-- what a number of a list asks, by the list's kind
+unfoldable pub ofKind : kind.the-data → ℕ → Condition
+ofKind kind.Positive f = positive f
+ofKind kind.Negative f = negative f
+ofKind kind.Unused n = unused n
+
+-- a table has an entry for each fact of a list that is judged by the table
+unfoldable pub KnownList : kind.the-data → List ℕ → Type 0
+unfolding KnownIn ofKind words
+KnownList k bytes = (f : ℕ) → f ∈ words bytes → KnownIn (ofKind k f)
 
 -- ---- what a verdict says of it
 

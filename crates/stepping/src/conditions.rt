@@ -1,6 +1,7 @@
 // Conditions of rules and attack states, judged in the round table and the used names of a state. The caller has judged
 // the files.
 ghost use mathlib.Core.Path.{_≡_};
+ghost use mathlib.Core.List.{map};
 ghost use Prim.Native.Nat.{_+_, _/_, _≤_, _<_};
 ghost use lib.ListN.{length, getD};
 ghost use Rattle.meaning.specs.Run.{met, conditions, unmet};
@@ -9,12 +10,20 @@ ghost use Rattle.records.specs.Words.{words};
 ghost use Rattle.closing.specs.Closing.{numbered};
 ghost use Rattle.files.specs.Known.{Known};
 ghost use Rattle.stepping.specs.Conditions.{stopNumber, factIn, kindIn, roundIn, conditionOf, unmetIn, KnownIn, namesIn};
+ghost use Rattle.stepping.specs.Conditions.{ofKind, KnownList};
 
 // A condition with its fact: of P, which must be in the closure, or of N, which must not; or a name, to be unused.
 pub enum Condition {
     Positive(usize),
     Negative(usize),
     Unused(usize),
+}
+
+// The kinds of lists of conditions: P, N, and the names.
+pub enum Kind {
+    Positive,
+    Negative,
+    Unused,
 }
 
 // The first unmet condition, if there is one.
@@ -60,22 +69,48 @@ pub fn meets(table: &[u16], used: &[u8], c: Condition) -> bool
     }
 }
 
-// The first unmet condition of the lists.
-pub fn first_unmet(p: &[u8], n: &[u8], names: &[u8], table: &[u16], used: &[u8]) -> Unmet
-    requires { ⌜ Known (now p) × Known (now n) × (4096 ≤ length (now table)) ⌝ }
-    ensures { λ r. ⌜ unmetIn r ≡ unmet (numbered (now (table .entry))) (namesIn (now (used .entry)))
-        (conditions (words (now (p .entry))) (words (now (n .entry))) (words (now (names .entry)))) ⌝ }
+// The condition that a number of a list of the kind is.
+fn of_kind(kind: Kind, number: usize) -> Condition
+    ensures { λ r. ⌜ conditionOf r ≡ ofKind kind number ⌝ }
 {
-    let conditions = count(p, n, names);
+    match kind {
+        Kind::Positive => Condition::Positive(number),
+        Kind::Negative => Condition::Negative(number),
+        Kind::Unused => Condition::Unused(number),
+    }
+}
+
+// The first unmet condition of one list, whose kind is known before the loop.
+pub fn first_of(kind: Kind, list: &[u8], table: &[u16], used: &[u8]) -> Unmet
+    requires { ⌜ KnownList kind (now list) × (4096 ≤ length (now table)) ⌝ }
+    ensures { λ r. ⌜ unmetIn r ≡ unmet (numbered (now (table .entry))) (namesIn (now (used .entry)))
+        (map (ofKind kind) (words (now (list .entry)))) ⌝ }
+{
+    let count = list.len() / 2;
     let mut i = 0;
-    while i < conditions {
-        let c = nth(p, n, names, i);
+    while i < count {
+        let c = of_kind(kind, records::word_at(list, 2 * i));
         if !meets(table, used, c) {
             return Unmet::At(c);
         }
         i += 1;
     }
     Unmet::Nowhere
+}
+
+// The first unmet condition of the lists.
+pub fn first_unmet(p: &[u8], n: &[u8], names: &[u8], table: &[u16], used: &[u8]) -> Unmet
+    requires { ⌜ Known (now p) × Known (now n) × (4096 ≤ length (now table)) ⌝ }
+    ensures { λ r. ⌜ unmetIn r ≡ unmet (numbered (now (table .entry))) (namesIn (now (used .entry)))
+        (conditions (words (now (p .entry))) (words (now (n .entry))) (words (now (names .entry)))) ⌝ }
+{
+    match first_of(Kind::Positive, p, table, used) {
+        Unmet::At(c) => Unmet::At(c),
+        Unmet::Nowhere => match first_of(Kind::Negative, n, table, used) {
+            Unmet::At(c) => Unmet::At(c),
+            Unmet::Nowhere => first_of(Kind::Unused, names, table, used),
+        },
+    }
 }
 
 // The number of a step that can't fire for a condition: 10, or 13 for a used name.

@@ -8,6 +8,7 @@ use lib.ListN.{length, drop, getD, length-drop}
 use denote.Ref.{now}
 use Rattle.sets.specs.Sets.{_∈_}
 use Rattle.meaning.specs.Model.{Rule}
+use Rattle.records.specs.Words.{word}
 use Rattle.records.specs.Records.{records}
 use Rattle.records.proofs.Sections.{record-size, records-at, records-end}
 use Rattle.sections.specs.declared.Role.the-variants.{Rules}
@@ -17,7 +18,7 @@ use Rattle.stepping.specs.Conditions.{namesIn}
 use Rattle.firing.specs.Firing.{firesBy}
 use Rattle.firing.proofs.Numbers.{Listing, listing-start, listing-room, listing-hit, listing-miss}
 use Rattle.firing.proofs.Numbers.{listing-end, listing-long}
-use Rattle.firing.proofs.Records.{few-rules}
+use Rattle.firing.proofs.Records.{few-rules, rule-long}
 use borrow.Author.Needs.{needs}
 use Rattle.firing.proofs.list_rules.Statement.{statement}
 use Rattle.firing.proofs.list_rules.Tie as tie
@@ -75,22 +76,11 @@ module _ (c : tie.After-record-at Inv-loop μ-loop) where
       (loop .loop .k) (loop .loop .n) (now (entry .args .list)) (loop .loop .list)
   listing = rw next at (loop .loop .inv .0)
 
+  long : length rule ≡ 2 + word rule
+  long = rule-long model (entry .pre .0) rule there
+
   few : loop .loop .k < 2048
   few = omega (arith, listing .left, few-rules model (entry .pre .0))
-
-fires-requires : tie.Need-fires-requires Inv-loop μ-loop
-fires-requires c κs = (entry c .pre .0, there c, entry c .pre .1)
-
-mul-list : tie.Need-mul-list Inv-loop μ-loop
-mul-list c = let r = c .before .before in omega (arith, few r, listing r .few)
-
-slice-write-list : tie.Need-slice-write-list Inv-loop μ-loop
-slice-write-list c =
-    let r = c .before .before in
-    omega (arith, listing-room (listing r) (entry r .pre .2), listing-long (listing r) (entry r .pre .2))
-
-add-n : tie.Need-add-n Inv-loop μ-loop
-add-n c = let r = c .before .before in omega (arith, few r, listing r .few)
 
 -- Every record has bytes.
 some : (c : tie.After-record-at Inv-loop μ-loop) → (0 < length (rule c)) × (at c + length (rule c) ≤ length (bytes c))
@@ -100,18 +90,43 @@ some c =
     let same = ap length (c .record-at .ensures) in
     (omega (arith, size .0, same), omega (arith, size .1, same, length-drop (at c) (bytes c), inside))
 
+-- Its length is read from its first bytes.
+size : (c : tie.After-word-at Inv-loop μ-loop) → 2 + c .word-at .result ≡ length (rule (c .before))
+size c = ap (λ n. 2 + n) (c .word-at .ensures) ∙ sym (long (c .before))
+
+word-at-requires : tie.Need-word-at-requires Inv-loop μ-loop
+word-at-requires c κs = omega (arith, long c)
+
+add-size : tie.Need-add-size Inv-loop μ-loop
+add-size c = omega (arith, size c, some (c .before))
+
+fires-requires : tie.Need-fires-requires Inv-loop μ-loop
+fires-requires c κs = let r = c .before in (entry r .pre .0, there r, entry r .pre .1)
+
+mul-list : tie.Need-mul-list Inv-loop μ-loop
+mul-list c = let r = c .before .before .before in omega (arith, few r, listing r .few)
+
+slice-write-list : tie.Need-slice-write-list Inv-loop μ-loop
+slice-write-list c =
+    let r = c .before .before .before in
+    omega (arith, listing-room (listing r) (entry r .pre .2), listing-long (listing r) (entry r .pre .2))
+
+add-n : tie.Need-add-n Inv-loop μ-loop
+add-n c = let r = c .before .before .before in omega (arith, few r, listing r .few)
+
 add-at : tie.Need-add-at Inv-loop μ-loop
-add-at c = omega (arith, some (c .before .before))
+add-at c = omega (arith, some (c .before .before .before), size (c .before .before))
 
 add-k : tie.Need-add-k Inv-loop μ-loop
-add-k c = omega (arith, few (c .before .before))
+add-k c = omega (arith, few (c .before .before .before))
 
 loop-less : tie.Need-loop-less Inv-loop μ-loop
-loop-less c = omega (arith, some (c .before .before))
+loop-less c = omega (arith, some (c .before .before .before), size (c .before .before))
 
 loop-again : tie.Need-loop-again Inv-loop μ-loop
 loop-again c =
-    let r = c .before .before in (
+    let r = c .before .before .before in
+    rw (size (c .before .before)) (
       ⊎-elim
           (λ w.
           rw (w .1, w .2)
@@ -141,6 +156,8 @@ list-rules-spec =
     section-requires
     loop-holds
     record-at-requires
+    word-at-requires
+    add-size
     fires-requires
     mul-list
     slice-write-list

@@ -99,7 +99,7 @@ count-requires : tie.Need-count-requires Inv-loop μ-loop Inv-search μ-search
 count-requires c κs = search needs
 
 loop-holds : tie.Need-loop-holds Inv-loop μ-loop Inv-search μ-search
-loop-holds c = looking-start _ _ _ _ _
+loop-holds c = looking-start _ _ _
 
 nth-requires : tie.Need-nth-requires Inv-loop μ-loop Inv-search μ-search
 nth-requires c κs = below c .0
@@ -120,7 +120,7 @@ loop-again : tie.Need-loop-again Inv-loop μ-loop Inv-search μ-search
 loop-again c =
     let l = c .before .before .before .before .before in
     let nth = c .before .before .before .before .nth .ensures in
-    looking-next _ _ _ (l .before .loop .inv) (below l .1)
+    looking-next _ (l .before .loop .inv) _ (below l .1)
     (rw nth at (sym (c .before .meets .ensures) ∙ not-false _ (c .if2 .left)))
 
 rule-list-requires-3 : tie.Need-rule-list-requires-3 Inv-loop μ-loop Inv-search μ-search
@@ -166,7 +166,7 @@ search-again c =
     let keeps =
     keeps-next (model s) (trace s) (start s .pre .2) (on s .past) (on s .keeps) (advanced .advance .ensures) in
     let none-left =
-    looking-end (P l) (N l) (made l) (done .before .loop .inv)
+    looking-end _ (done .before .loop .inv)
     (rw (asks-length (P l) (N l) (made l))
     (omega (arith, done .before .before .count .ensures, done .loop-test .left))) in
     on-fired (model (here l)) (trace (here l)) (on (here l)) (closed k) refl (step-there k) (asked-is l none none-left)
@@ -214,7 +214,7 @@ returns-2 c =
     let k = closing-of (word-of l) in
     let nth = c .before .before .before .before .nth .ensures in
     let hit =
-    looking-hit (P l) (N l) (made l) (at .before .loop .inv) (below at .1)
+    looking-hit _ (at .before .loop .inv) _ (below at .1)
     (rw nth at (sym (c .before .meets .ensures) ∙ not-true _ (c .if2 .taken))) in
     on-stop _ _ (on (here l)) (closed k) (step-there k) (asked-is l _ (hit ∙ ap some (sym nth))) refl refl refl
     (few-more k)

@@ -31,7 +31,7 @@ use Rattle.checking.proofs.running.search.Tie as tie
 abbrev pub Inv-loop : tie.InvT-loop
 Inv-loop model trace codes state table names kept index ends starts entries steps persistent fired rounds rule p
     n made count i₀ i =
-    Looking p n made (numbered table) (namesIn names) i
+    Looking (asks p n made) (numbered table) (namesIn names) i
 
 abbrev pub μ-loop : tie.MeasureT-loop
 μ-loop model trace codes state table names kept index ends starts entries steps persistent fired rounds rule p

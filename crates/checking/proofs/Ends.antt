@@ -32,7 +32,7 @@ use Rattle.closing.specs.Closing.{numbered, Filled, ClosesUnder}
 use Rattle.stepping.specs.Conditions.{roundIn, unmetIn, KnownIn, namesIn}
 use Rattle.checking.specs.Verdict.{Lent, outcome, Left}
 use Rattle.checking.specs.Running.{endingOf, reached, counted, aimed, Asked, StepsTo}
-use Rattle.checking.specs.Running.{Numbers, EndsAs}
+use Rattle.checking.specs.Running.{Ready, Numbers, EndsAs}
 use Rattle.stepping.specs.declared.conditions.Condition.the-variants as condition
 use Rattle.stepping.specs.declared.conditions.Unmet.the-variants as found
 use Rattle.checking.specs.declared.running.Ending.the-variants as ends
@@ -107,6 +107,16 @@ module _ (m t : List ℕ) where
     keeps = s .keeps;
     within = s .within;
     bound = s .bound;
+  }
+
+  -- the buffers have as much room as before the steps
+  pub ready-on : {before after : Lent} {bits : List ℕ} {r : Steps} → Ready m t before → StepsTo m t before after bits r
+      → Ready m t after
+  ready-on ready s = record {
+    fine = ready .fine;
+    room = omega (arith, s .kept .as-long, ready .room);
+    entries = omega (arith, s .as-long, ready .entries);
+    names = omega (arith, s .names-kept .as-long, ready .names);
   }
 
   module _ {l : Lent} {bits : List ℕ} {r : Steps} (s : StepsTo m t l l bits r) where

@@ -3,7 +3,7 @@ use Prim.Native.Nat.{ℕ}
 use mathlib.Core.Path.{_≡_, refl}
 use mathlib.Core.Bool.{true, false}
 use mathlib.Core.List.{List}
-use mathlib.Core.Option.{Option, none, some}
+use mathlib.Core.Option.{Option, none, some, Option·map}
 use lib.Dec.{ltb}
 use borrow.Author.Tests.{ltb-false}
 use lib.ListN.{length}
@@ -11,6 +11,7 @@ use Rattle.sets.proofs.Laws.{by-test}
 use Rattle.records.specs.Records.{given, _orElse_}
 use Rattle.records.proofs.Judging.{or-clear}
 use Rattle.files.specs.Files.{Blamed, pairFault}
+use Rattle.files.specs.Answers.{blamedNumber}
 use Rattle.closing.specs.Closing.{noRoom}
 use Rattle.checking.specs.Verdict.{Lent, noSpace, nothing, refused, blamed, refusal, outcome, ran, verdictOf}
 use Rattle.checking.specs.Running.{Ready}
@@ -62,3 +63,20 @@ module _ (m t : List ℕ) (l : Lent) where
           let w : WellFormed m t l = record { room = room; fine = e } in
           rw (refuses-none w) (fine w)
       judged room (some b) e = rw (refuses-fault room b e) (faulty room b e)
+
+-- ---- a refusal's number
+
+-- The number of a fault as a verdict is the fault's.
+verdict-number : (o : Option Blamed)
+    → Option·map blamedNumber o ≡ Option·map (λ (v : Verdict). v .number) (Option·map blamed o)
+unfolding blamed refused
+verdict-number (some b) = refl
+verdict-number none = refl
+
+-- So it is with the first of two.
+pub either-number : (files steps : Option Blamed)
+    → (Option·map blamedNumber files orElse Option·map blamedNumber steps)
+    ≡ Option·map (λ (v : Verdict). v .number) (Option·map blamed (files orElse steps))
+unfolding _orElse_ blamed refused
+either-number (some b) steps = refl
+either-number none steps = verdict-number steps

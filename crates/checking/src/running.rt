@@ -117,6 +117,58 @@ fn search(
     }
 }
 
+// The codes of the goal that the trace names, none where it is an attack state. The caller has judged the pair.
+pub fn goal_codes<'a>(model: &'a [u8], trace: &[u8]) -> &'a [u8]
+    requires { ⌜ pairFault (now model) (now trace) ≡ none ⌝ }
+    ensures { λ r. ⌜ GoalCodes (now (model .entry)) (traceOf (now (trace .entry)) .goal) (now r) ⌝ }
+{
+    held::formula(model, goal_of(trace))
+}
+
+// Runs a judged pair's steps, from the initial state, to the last state reached. That one is closed where a step is
+// blocked in it, and not where all steps have fired. Each state is closed by the index where one is lent, else by
+// sweeps.
+pub fn reach(
+    model: &[u8],
+    trace: &[u8],
+    codes: &[u8],
+    state: &mut [u8],
+    table: &mut [u16],
+    names: &mut [u8],
+    kept: &mut [u8],
+    index: &[u16],
+    ends: &[u16],
+    starts: &[u16],
+) -> Steps
+    requires { ⌜ Ready (now model) (now trace) (record { state = now state; table = now table; names = now names })
+        × GoalCodes (now model) (traceOf (now trace) .goal) (now codes)
+        × Keeps (aimed (now model) (now trace)) [] (now kept)
+        × Way (now model) (now index) (now ends) (now starts) ⌝ }
+    ensures { λ r. ⌜ StepsTo (now (model .entry)) (now (trace .entry))
+        (record { state = now (state .entry); table = now (table .entry); names = now (names .entry) })
+        (record { state = now (state .exit); table = now (table .exit); names = now (names .exit) })
+        (now (kept .exit)) r ⌝ }
+{
+    stepping::begin(
+        held::section(model, Role::Initial),
+        held::names(model),
+        state,
+        names,
+    );
+    search(
+        model,
+        trace,
+        codes,
+        state,
+        table,
+        names,
+        kept,
+        index,
+        ends,
+        starts,
+    )
+}
+
 // Whether the attack state that the trace names is met in the closure that the table has. It makes no names.
 fn ask_state(model: &[u8], trace: &[u8], table: &[u16], names: &[u8]) -> Ending
     requires { ⌜ (pairFault (now model) (now trace) ≡ none) × (4096 ≤ length (now table))
@@ -258,45 +310,31 @@ fn verdict(model: &[u8], trace: &[u8], ended: Ended, held: usize, table: &[u16])
     }
 }
 
-// Runs a judged pair: each state is closed by the index where one is lent, else by sweeps.
-fn run(
+// The verdict on a judged pair whose steps led so.
+fn conclude(
     model: &[u8],
     trace: &[u8],
-    state: &mut [u8],
+    codes: &[u8],
+    reached: Steps,
+    state: &[u8],
     table: &mut [u16],
-    names: &mut [u8],
+    names: &[u8],
+    kept: &mut [u8],
     index: &[u16],
     ends: &[u16],
     starts: &[u16],
 ) -> Verdict
     requires { ⌜ Ready (now model) (now trace) (record { state = now state; table = now table; names = now names })
+        × StepsTo (now model) (now trace) (record { state = now state; table = now table; names = now names })
+        (record { state = now state; table = now table; names = now names }) (now kept) reached
+        × GoalCodes (now model) (traceOf (now trace) .goal) (now codes)
         × Way (now model) (now index) (now ends) (now starts) ⌝ }
     ensures { λ r. ⌜
         (r ≡ ran (now (model .entry)) (now (trace .entry)) (outcome (now (model .entry)) (now (trace .entry))))
         × Left (modelOf (now (model .entry))) (outcome (now (model .entry)) (now (trace .entry)))
         (record { state = now (state .entry); table = now (table .entry); names = now (names .entry) })
-        (record { state = now (state .exit); table = now (table .exit); names = now (names .exit) }) ⌝ }
+        (record { state = now (state .entry); table = now (table .exit); names = now (names .entry) }) ⌝ }
 {
-    stepping::begin(
-        held::section(model, Role::Initial),
-        held::names(model),
-        state,
-        names,
-    );
-    let codes = held::formula(model, goal_of(trace));
-    let mut kept = [0u8; 32];
-    let reached = search(
-        model,
-        trace,
-        codes,
-        state,
-        table,
-        names,
-        &mut kept,
-        index,
-        ends,
-        starts,
-    );
     let ended = finish(
         model,
         trace,
@@ -305,13 +343,16 @@ fn run(
         state,
         table,
         names,
-        &mut kept,
+        kept,
         index,
         ends,
         starts,
     );
     verdict(model, trace, ended, facts::count(state, 512), table)
 }
+
+// A run is the steps and what is concluded from them. These are two calls in each form of it, and not a function: that
+// would have a frame of its own on a small board's stack.
 
 // Runs a judged pair, with no index.
 pub fn run_swept(
@@ -330,7 +371,33 @@ pub fn run_swept(
 {
     let empty = [0u16; 1];
     let none = &empty[..0];
-    run(model, trace, state, table, names, none, none, none)
+    let codes = goal_codes(model, trace);
+    let mut kept = [0u8; 32];
+    let reached = reach(
+        model,
+        trace,
+        codes,
+        state,
+        table,
+        names,
+        &mut kept,
+        none,
+        none,
+        none,
+    );
+    conclude(
+        model,
+        trace,
+        codes,
+        reached,
+        state,
+        table,
+        names,
+        &mut kept,
+        none,
+        none,
+        none,
+    )
 }
 
 // Runs a judged pair, by an index of the model's clauses, which is built once for all states.
@@ -354,12 +421,29 @@ pub fn run_indexed(
     let mut ends = [0u16; 4097];
     let mut starts = [0u16; 4096];
     let n = closing::build_index(model, index, &mut ends, &mut starts);
-    run(
+    let codes = goal_codes(model, trace);
+    let mut bits = [0u8; 32];
+    let reached = reach(
         model,
         trace,
+        codes,
         state,
         table,
         names,
+        &mut bits,
+        index,
+        &ends,
+        &starts[..n],
+    );
+    conclude(
+        model,
+        trace,
+        codes,
+        reached,
+        state,
+        table,
+        names,
+        &mut bits,
         index,
         &ends,
         &starts[..n],

@@ -10,9 +10,9 @@ use Rattle.facts.specs.Facts.{members}
 use Rattle.facts.proofs.Laws.{beyond}
 use Rattle.sections.specs.declared.Role.the-variants.{Clauses}
 use Rattle.files.specs.Files.{sectionOf, clausesIn, modelOf, shapeFault}
-use Rattle.worklist.specs.Working.{stateIn, Placed, Listed, Workable, Works}
+use Rattle.worklist.specs.Working.{stateIn, Placed, Listed, Workable, WorksFor, Works}
 use Rattle.worklist.specs.declared.Worked.{Worked}
-use Rattle.worklist.proofs.Laws.{closes-from, state-is, begun-from, judged-model}
+use Rattle.worklist.proofs.Laws.{closes-from, works-all, state-is, begun-from, judged-model}
 use Rattle.closing.specs.Closing.{Written, Way}
 use Rattle.closing.specs.Closing.Way.{sweeps, indexed}
 use Rattle.closing.specs.Sweep.{stored}
@@ -46,10 +46,17 @@ module _ (m state : List ℕ) (fine : shapeFault m ≡ none) {before begun : Lis
       })
 
   -- and what it leaves is the state's.
-  pub works : {section after : List ℕ} {r : Worked} → section ≡ sectionOf m Clauses
-      → Works (clausesIn section) (stateIn begun) begun after r
-      → Works (modelOf m .clauses) (members state) before after r
+  pub works : {section after : List ℕ} {g : ℕ} {r : Worked} → section ≡ sectionOf m Clauses
+      → WorksFor (clausesIn section) (stateIn begun) g begun after r
+      → WorksFor (modelOf m .clauses) (members state) g before after r
   unfolding modelOf
-  works {section} {after} {r} is w =
+  works {section} {after} {g} {r} is w =
       closes-from (state-is begun entries (beyond 512 state)) (start .as-long) (start .beyond)
-      (subst (λ (l : List ℕ). Works (clausesIn l) (stateIn begun) begun after r) is w)
+      (subst (λ (l : List ℕ). WorksFor (clausesIn l) (stateIn begun) g begun after r) is w)
+
+-- For no fact that is full closing.
+pub works-whole : (m state : List ℕ) → shapeFault m ≡ none → {before after : List ℕ} {r : Worked}
+    → WorksFor (modelOf m .clauses) (members state) 4096 before after r
+    → Works (modelOf m .clauses) (members state) before after r
+unfolding modelOf
+works-whole m state fine w = works-all (judged-model m fine (beyond 512 state) .known) 4096 (omega arith) w

@@ -15,7 +15,7 @@ ghost use Rattle.records.specs.declared.Kind.{Kind};
 ghost use Rattle.sections.specs.declared.Role.{Role};
 ghost use Rattle.files.specs.Files.{sectionOf, clausesIn, modelOf, shapeFault};
 ghost use Rattle.indexing.specs.Placing.{Cleared};
-ghost use Rattle.worklist.specs.Working.{Placed, Listed, Works};
+ghost use Rattle.worklist.specs.Working.{Placed, Listed, WorksFor};
 ghost use Rattle.closing.specs.Closing.{Written, Bounded, Way, ClosesUnder, ClosesKnown, Closes};
 ghost use Rattle.closing.specs.Closing.{noRoom, stateRefusal, noPlaces, Builds, Crosses, ClosesIndexed};
 ghost use Rattle.closing.specs.Sweep.{Started, stored, Body, upTo, swept, adds};
@@ -41,6 +41,9 @@ pub enum Crossed {
 const BYTES: usize = 512;
 
 const OUTSIDE: u16 = 65535;
+
+// No fact: closing for it goes through all rounds.
+const NO_FACT: usize = 4096;
 
 // So many clauses are swept before the worklist has looked through its table.
 const FEW: usize = 32;
@@ -164,19 +167,21 @@ fn close_swept(model: &[u8], state: &[u8], table: &mut [u16]) -> usize
     close_clauses(held::section(model, Role::Clauses), state, table)
 }
 
-// The same by the index of the model's clauses, with how many body places were crossed.
-fn close_worked(
+// The same by the index of the model's clauses, with how many body places were crossed, up to the round in which the
+// fact asked for arrives; through all rounds where it is absent.
+pub fn close_worked(
     model: &[u8],
     state: &[u8],
     table: &mut [u16],
     index: &[u16],
     ends: &[u16],
     starts: &[u16],
+    asked: usize,
 ) -> Worked
     requires { ⌜ (shapeFault (now model) ≡ none) × (4096 ≤ length (now table))
         × Listed (modelOf (now model) .clauses) (now index) (now ends)
         × Placed (sectionOf (now model) Role.Clauses) (now starts) ⌝ }
-    ensures { λ r. ⌜ Works (modelOf (now (model .entry)) .clauses) (members (now (state .entry)))
+    ensures { λ r. ⌜ WorksFor (modelOf (now (model .entry)) .clauses) (members (now (state .entry))) asked
         (now (table .entry)) (now (table .exit)) r ⌝ }
 {
     start(state, table);
@@ -186,6 +191,7 @@ fn close_worked(
         index,
         ends,
         starts,
+        asked,
     )
 }
 
@@ -207,7 +213,7 @@ pub fn close_judged(
     if starts.len() <= FEW {
         return close_swept(model, state, table);
     }
-    let worked = close_worked(model, state, table, index, ends, starts);
+    let worked = close_worked(model, state, table, index, ends, starts, NO_FACT);
     worked.rounds
 }
 
@@ -283,7 +289,7 @@ fn close_built(model: &[u8], state: &[u8], table: &mut [u16], index: &mut [u16])
     let mut ends = [0u16; 4097];
     let mut starts = [0u16; 4096];
     let n = build_index(model, index, &mut ends, &mut starts);
-    let worked = close_worked(model, state, table, index, &ends, &starts[..n]);
+    let worked = close_worked(model, state, table, index, &ends, &starts[..n], NO_FACT);
     Crossed::Rounds(worked.rounds, worked.crossings)
 }
 

@@ -21,7 +21,9 @@ use Rattle.checking.specs.declared.Verdict.{Verdict}
 use Rattle.exports.specs.Exports.{shorter, over, values, VerdictOut, ChecksOut, ChecksIndexedOut}
 use Rattle.firing.specs.Firing as firing
 use Rattle.firing.specs.declared.Fired.{Fired}
-use Rattle.exports.specs.Exports.{unlessRefused, ClosesOut, ClosesIndexedOut, RulesOut}
+use Rattle.holding.specs.Holding as holding
+use Rattle.holding.specs.declared.Answer.{Answer}
+use Rattle.exports.specs.Exports.{unlessRefused, ClosesOut, ClosesIndexedOut, RulesOut, HoldsOut}
 use Rattle.exports.specs.Exports.{modelRefusal, figures, CountsOut}
 use Rattle.exports.proofs.Fronts.{stored}
 
@@ -208,6 +210,50 @@ module _ (m t : List ℕ) (before : Lent) (ix list : List ℕ) where
           buffers = fired .buffers;
           index = fired .index;
         })
+
+-- ---- one fact
+
+-- a round number is answered where nothing is refused
+round-fine : (o : Option ℕ) (k l n c : ℕ) → Answer.Round n c ≡ holding.answer o k l → (o ≡ none) × (n ≡ k) × (c ≡ l)
+unfolding holding.answer
+round-fine none k l n c e = (refl, cc, cc)
+round-fine (some j) k l n c e = let z : _≡_ {A = ℕ} 0 1 = cc in absurd (omega arith)
+
+-- a refusal is answered by its number
+round-some : (o : Option ℕ) (k l n : ℕ) → Answer.Refused n ≡ holding.answer o k l → o ≡ some n
+unfolding holding.answer
+round-some none k l n e = let z : _≡_ {A = ℕ} 0 1 = cc in absurd (omega arith)
+round-some (some j) k l n e = cc
+
+module _ (m t : List ℕ) (g : ℕ) (before : Lent) (ix : List ℕ) where
+  -- without room for the two values
+  pub no-round : (out : List ℕ) → length out < 2 → HoldsOut (shorter out 2) m t g before before ix ix out out 1
+  unfolding shorter HoldsOut
+  no-round out short = rw (lt-ltb _ _ short) (refl, refl, refl, refl)
+
+  module _ (after : Lent) (ix' out : List ℕ) (r : Answer) (n : ℕ) (room : 2 ≤ length out)
+      (asked : holding.HoldsIn m t g before after ix ix' r) where
+    -- they are written
+    pub some-round : (c : ℕ) → r ≡ Answer.Round n c
+        → HoldsOut (shorter out 2) m t g before after ix ix' out (set (set out 0 n) 1 c) 0
+    unfolding shorter HoldsOut code unlessRefused
+    some-round c told =
+        let (fine, same, rounds) = round-fine _ _ _ _ _ (sym told ∙ asked .answers) in
+        rw (le-ltb _ _ room)
+        (record {
+          number = rw fine;
+          values = rw (fine, ← same, ← rounds) (stored (n ∷ c ∷ []) out room);
+          buffers = asked .buffers;
+          index = asked .index;
+        })
+
+    -- a refusal writes nothing there
+    pub round-refused : r ≡ Answer.Refused n → HoldsOut (shorter out 2) m t g before after ix ix' out out n
+    unfolding shorter HoldsOut code unlessRefused
+    round-refused told =
+        let number = round-some _ _ _ _ (sym told ∙ asked .answers) in
+        rw (le-ltb _ _ room)
+        (record { number = rw number; values = rw number; buffers = asked .buffers; index = asked .index })
 
 -- ---- a model's figures
 

@@ -8,12 +8,14 @@ use Rattle.files.specs.Files.{modelOf}
 use Rattle.closing.specs.Closing.{closeRefusal, closeRefusalIndexed}
 use Rattle.closing.proofs.Alone.{table-unique}
 use Rattle.closing.proofs.Crossings.{index-left}
-use Rattle.checking.specs.Verdict.{Lent, refusal, refusalIndexed}
+use Rattle.checking.specs.Verdict.{Lent, refusal, refusalIndexed, outcome}
 use Rattle.checking.proofs.Theorems.{LentBytes, buffers-unique}
 use Rattle.firing.specs.Firing.{rulesRefusal}
 use Rattle.firing.proofs.Theorems.{left-unique}
+use Rattle.holding.specs.Holding.{holdsRefusal, blockedBy}
+use Rattle.holding.proofs.Theorems as held
 use Rattle.exports.specs.Exports.{ChecksOut, ChecksIndexedOut, ClosesOut, ClosesIndexedOut}
-use Rattle.exports.specs.Exports.{RulesOut, CountsOut, PartOut}
+use Rattle.exports.specs.Exports.{RulesOut, HoldsOut, CountsOut, PartOut}
 
 -- checking: the number, the values and the buffers
 module _ (m t : List ℕ) (before : Lent) {a b : Lent} (bytes-a : LentBytes a) (bytes-b : LentBytes b) where
@@ -56,6 +58,22 @@ module _ (m t : List ℕ) (before : Lent) {a b : Lent} (bytes-a : LentBytes a) (
         index-left refused (modelOf m .clauses) ix i₁ i₂ (x .index) (y .index),
         x .entries ∙ sym (y .entries),
         x .count ∙ sym (y .count),
+      )
+
+  -- one fact: the answer, the buffers, the index and the two values
+  pub holds-unique : (short : Bool) (g : ℕ) (ix i₁ i₂ out o₁ o₂ : List ℕ) (r₁ r₂ : ℕ)
+      → HoldsOut short m t g before a ix i₁ out o₁ r₁ → HoldsOut short m t g before b ix i₂ out o₂ r₂
+      → (r₁ ≡ r₂) × (a ≡ b) × (i₁ ≡ i₂) × (o₁ ≡ o₂)
+  unfolding HoldsOut
+  holds-unique true g ix i₁ i₂ out o₁ o₂ r₁ r₂ x y =
+      (x .0 ∙ sym (y .0), x .1 ∙ sym (y .1), x .2 ∙ sym (y .2), x .3 ∙ sym (y .3))
+  holds-unique false g ix i₁ i₂ out o₁ o₂ r₁ r₂ x y =
+      let refused = holdsRefusal m t g before ix in (
+        x .number ∙ sym (y .number),
+        held.buffers-unique m t g before bytes-a bytes-b refused (blockedBy (outcome m t .ending)) (modelOf m)
+            (outcome m t) (x .buffers) (y .buffers),
+        index-left refused (modelOf m .clauses) ix i₁ i₂ (x .index) (y .index),
+        x .values ∙ sym (y .values),
       )
 
 -- closing: the answer, the table and the rounds

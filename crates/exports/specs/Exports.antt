@@ -9,6 +9,7 @@ use lib.Dec.{ltb}
 use lib.ListN.{length, take, drop}
 use Rattle.meaning.specs.Model.{Model, aims}
 use Rattle.meaning.specs.Rounds as meant
+use Rattle.meaning.specs.Early.{roundsFor}
 use Rattle.meaning.specs.Worklist.{placesIn}
 use Rattle.facts.specs.Facts.{members}
 use Rattle.records.specs.Answers.{code}
@@ -17,6 +18,7 @@ use Rattle.closing.specs.Closing.{closeRefusal, closeRefusalIndexed, Table, Ind
 use Rattle.checking.specs.Verdict.{Lent, refusal, refusalIndexed, verdictOf, Buffers, outcome}
 use Rattle.checking.specs.declared.Verdict.{Verdict}
 use Rattle.firing.specs.Firing.{firing, rulesRefusal, numbersIn, LeftAsChecked}
+use Rattle.holding.specs.Holding as holding
 
 -- whether a list has fewer than n entries
 unfoldable pub shorter : List ℕ → ℕ → Bool
@@ -105,6 +107,27 @@ RulesOut true m t before after ix ix' list list' out out' r =
     (r ≡ 1) × (after ≡ before) × (ix' ≡ ix) × (list' ≡ list) × (out' ≡ out)
 RulesOut false m t before after ix ix' list list' out out' r =
     CountOut m t before after ix ix' list list' out out' r
+
+-- the refusals of asking for one fact, a step that can't fire among them (document 02, wish 8)
+abbrev pub holdsStopped : List ℕ → List ℕ → ℕ → Lent → List ℕ → Option ℕ
+holdsStopped m t g l ix = holding.stopped (holding.holdsRefusal m t g l ix) (holding.blockedBy (outcome m t .ending))
+
+-- what `cantivorex_holds` answers with room for two values: its number, the fact's round number and the rounds run, and
+-- every byte and entry of the buffers and the index
+pub record RoundOut (m t : List ℕ) (g : ℕ) (before after : Lent) (ix ix' out out' : List ℕ) (r : ℕ) : Type 0 where
+  pub number : r ≡ code (holdsStopped m t g before ix)
+  pub values : out'
+      ≡ unlessRefused (holdsStopped m t g before ix)
+      (meant.roundNumber (modelOf m .clauses) (outcome m t .state .facts) g
+      ∷ roundsFor (modelOf m .clauses) (outcome m t .state .facts) g ∷ []) out
+  pub buffers : holding.Buffers (holding.holdsRefusal m t g before ix) (holding.blockedBy (outcome m t .ending))
+      (modelOf m) (outcome m t) g before after
+  pub index : Index (holding.holdsRefusal m t g before ix) (modelOf m .clauses) ix ix'
+
+-- what it promises: without room for them, 1 and no change
+unfoldable pub HoldsOut : Bool → List ℕ → List ℕ → ℕ → Lent → Lent → List ℕ → List ℕ → List ℕ → List ℕ → ℕ → Type 0
+HoldsOut true m t g before after ix ix' out out' r = (r ≡ 1) × (after ≡ before) × (ix' ≡ ix) × (out' ≡ out)
+HoldsOut false m t g before after ix ix' out out' r = RoundOut m t g before after ix ix' out out' r
 
 -- "4 to 7 for the model", 12 and 17, after its 2 and 3: "A refusal, here and in every later tool, is its number alone."
 unfoldable pub modelRefusal : List ℕ → Option ℕ

@@ -5,7 +5,7 @@ ghost use mathlib.Core.Path.{_≡_};
 ghost use mathlib.Core.List.{[], _∷_};
 ghost use lib.ListN.{length};
 ghost use Rattle.exports.specs.Exports.{ChecksOut, ChecksIndexedOut, ClosesOut, ClosesIndexedOut};
-ghost use Rattle.exports.specs.Exports.{RulesOut, CountsOut, PartOut};
+ghost use Rattle.exports.specs.Exports.{RulesOut, HoldsOut, CountsOut, PartOut};
 ghost use Rattle.exports.specs.Exports.{shorter, values, over};
 ghost use Rattle.files.specs.Answers.{partOf};
 use checking::Verdict;
@@ -18,6 +18,7 @@ use files::both;
 use files::held;
 use files::model;
 use firing::Fired;
+use holding::Answer;
 
 // How many values a verdict has.
 const VALUES: usize = 10;
@@ -167,6 +168,38 @@ pub extern "C" fn cantivorex_rules(
             0
         }
         Fired::Refused(number) => number,
+    }
+}
+
+// Whether a fact holds after all steps: 0, with its round number (65,535 where it is absent) and the rounds run on the
+// last state in the first two entries of `out`, or a refusal's number. With fewer than two entries: 1, and nothing is
+// changed.
+#[no_mangle]
+pub extern "C" fn cantivorex_holds(
+    model: &[u8],
+    trace: &[u8],
+    fact: usize,
+    state: &mut [u8],
+    table: &mut [u16],
+    names: &mut [u8],
+    index: &mut [u16],
+    out: &mut [u64],
+) -> u8
+    ensures { λ r. ⌜ HoldsOut (shorter (now (out .entry)) 2) (now (model .entry)) (now (trace .entry)) fact
+        (record { state = now (state .entry); table = now (table .entry); names = now (names .entry) })
+        (record { state = now (state .exit); table = now (table .exit); names = now (names .exit) })
+        (now (index .entry)) (now (index .exit)) (now (out .entry)) (now (out .exit)) r ⌝ }
+{
+    if out.len() < 2 {
+        return 1;
+    }
+    match holding::holds(model, trace, fact, state, table, names, index) {
+        Answer::Round(n, rounds) => {
+            out[0] = n as u64;
+            out[1] = rounds as u64;
+            0
+        }
+        Answer::Refused(number) => number,
     }
 }
 

@@ -30,6 +30,7 @@ use Rattle.closing.specs.Closing.{noPlaces}
 use Rattle.closing.proofs.Crossings.{index-left}
 use Rattle.checking.specs.Verdict.{Lent, noSpace, refused, blamed, refusal, outcome, Buffers}
 use Rattle.checking.specs.declared.Verdict.{Verdict}
+use Rattle.checking.proofs.Refusals.{either-number}
 use Rattle.checking.proofs.Theorems.{LentBytes, buffers-unique}
 use Rattle.firing.specs.Firing.{firesBy, numbersOf, firing, IsFiring, listShort, rulesRefusal}
 use Rattle.firing.specs.Firing.{LeftAsChecked, FiresIn}
@@ -285,20 +286,6 @@ module _ (m t t' : List ℕ) (k : ℕ) (longer : traceOf t' .steps ≡ traceOf t
       )
 
 -- ---- refusals
-
--- The number of a fault as a verdict is the fault's.
-verdict-number : (o : Option Blamed)
-    → Option·map blamedNumber o ≡ Option·map (λ (v : Verdict). v .number) (Option·map blamed o)
-unfolding blamed refused
-verdict-number (some b) = refl
-verdict-number none = refl
-
-either-number : (files steps : Option Blamed)
-    → (Option·map blamedNumber files orElse Option·map blamedNumber steps)
-    ≡ Option·map (λ (v : Verdict). v .number) (Option·map blamed (files orElse steps))
-unfolding _orElse_ blamed refused
-either-number (some b) steps = refl
-either-number none steps = verdict-number steps
 
 module _ (m t : List ℕ) (l : Lent) (ix list : List ℕ) where
   -- With room for the list and the index the numbers are the check's,

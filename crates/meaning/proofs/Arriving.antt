@@ -301,3 +301,8 @@ module _ {cs : List Clause} {S : Facts} (known : Known cs S) where
   pub begun-sound : Sound cs S [] (begun cs S)
   unfolding begun
   begun-sound = let (o, keeps, heads) = unasked-opens cs (λ c m. m) _ opening in opened-sound o heads
+
+  -- Nothing has arrived then but in rounds 0 and 1.
+  pub begun-near : begun cs S .latest ≤ 1
+  unfolding begun
+  begun-near = let (o, keeps, heads) = unasked-opens cs (λ c m. m) _ opening in o .near

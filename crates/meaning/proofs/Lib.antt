@@ -4,6 +4,7 @@ pub mod Places
 pub mod Indexes
 pub mod Arriving
 pub mod Worklist
+pub mod Early
 pub mod Meeting
 pub mod Reaching
 pub mod Runs

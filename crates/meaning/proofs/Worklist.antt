@@ -205,7 +205,7 @@ module _ {cs : List Clause} {S : Facts} (known : Known cs S) where
         ]
 
     -- .. and what waits is of no earlier one.
-    within-after : (x : ℕ) → x ∈ w .queue → roundNumber cs S f ≤ roundNumber cs S x
+    pub within-after : (x : ℕ) → x ∈ w .queue → roundNumber cs S f ≤ roundNumber cs S x
     within-after x m =
         pairs-apart (λ a b. le-prop) (had ++ f ∷ []) (w .queue) .0 (i .arrived .order) .2 f x
         (Memᴰ·append-right had (List·Memᴰ·head refl)) m
@@ -226,7 +226,7 @@ module _ {cs : List Clause} {S : Facts} (known : Known cs S) where
         rw e at (i .fired k l (i .lacking k ∙ rw (out, none)))
 
     -- Whatever stands in a round up to that of the fact has arrived.
-    within-settled : (x : ℕ) → T (round cs S (roundNumber cs S f) x) → x ∈ (had ++ f ∷ []) ++ w .queue
+    pub within-settled : (x : ℕ) → T (round cs S (roundNumber cs S f) x) → x ∈ (had ++ f ∷ []) ++ w .queue
     within-settled x =
         settled known ((had ++ f ∷ []) ++ w .queue) had (roundNumber cs S f) (i .arrived .held) within-fired
         (λ y m. elim (List·Memᴰ·append-cases (had ++ f ∷ []) m) [
@@ -343,13 +343,18 @@ module _ {cs : List Clause} {S : Facts} (known : Known cs S) where
   crossed-all r e (k ∷ ks) w i =
       crossed-all r e ks (cross cs r k w) (cross-keeps i r (e ∙ ap suc (sym (within-number i))))
 
-  -- A turn leads from one moment between turns to the next.
+  -- A turn crosses all places of the fact.
+  pub taken-within : {had rest : List ℕ} {f : ℕ} {w : Work} → Sound cs S had w → w .queue ≡ f ∷ rest
+      → Within cs S had f [] (taken cs f rest w)
+  unfolding taken
+  taken-within {f = f} s e =
+      let i = take-first s e in
+      crossed-all _ (ap suc (within-number i)) (entriesFrom 0 cs f) _ i
+
+  -- So it leads from one moment between turns to the next.
   pub taken-sound : {had rest : List ℕ} {f : ℕ} {w : Work} → Sound cs S had w → w .queue ≡ f ∷ rest
       → Sound cs S (had ++ f ∷ []) (taken cs f rest w)
-  unfolding taken
-  taken-sound {f = f} s e =
-      let i = take-first s e in
-      within-done (crossed-all _ (ap suc (within-number i)) (entriesFrom 0 cs f) _ i)
+  taken-sound s e = within-done (taken-within s e)
 
   -- After enough turns none waits.
   drained-done : (turns : ℕ) (had : List ℕ) (w : Work) → Sound cs S had w → 4096 ≤ length had + turns

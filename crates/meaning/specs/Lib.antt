@@ -1,6 +1,7 @@
 pub mod Past
 pub mod Model
 pub mod Rounds
+pub mod Early
 pub mod Worklist
 pub mod Working
 pub mod Run

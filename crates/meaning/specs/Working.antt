@@ -2,9 +2,9 @@
 -- what it keeps fits its memory, and lead to what is promised.
 use Prim.Native.Nat.{ℕ, suc, _+_, _≤_, _<_}
 use mathlib.Core.Path.{_≡_}
-use mathlib.Core.Bool.{false, not, cond}
+use mathlib.Core.Bool.{Bool, false, not, cond}
 use mathlib.Core.List.{List, [], _∷_, _++_, List·Nodup, Pairwise}
-use lib.Dec.{T}
+use lib.Dec.{T, ltb}
 use lib.ListN.{length, getD}
 use Rattle.sets.specs.Sets.{Facts, listed, _∈_}
 use Rattle.meaning.specs.Model.{Clause}
@@ -64,3 +64,16 @@ pub record Within (cs : List Clause) (S : Facts) (had : List ℕ) (f : ℕ) (ks 
   pub distinct : List·Nodup ks
   pub entries : (k : ℕ) → k ∈ ks → (k < length cs) × (f ∈ clauseAt cs k .body)
   pub crossings : w .crossings + length ks ≡ placesIn (listed (had ++ f ∷ [])) cs
+
+-- ---- until a fact arrives (document 02, wish 8)
+
+-- the facts of earlier rounds than the fact g's; all of the closure where g is outside it
+unfoldable pub sooner : List Clause → Facts → ℕ → Facts
+unfolding roundNumber
+sooner cs S g f = ltb (roundNumber cs S f) (roundNumber cs S g)
+
+-- between two turns, while facts are taken that arose sooner than g: nothing of a later round than g's has arrived
+pub record Toward (cs : List Clause) (S : Facts) (g : ℕ) (had : List ℕ) (w : Work) : Type 0 where
+  pub sound : Sound cs S had w
+  pub near : w .latest ≤ roundNumber cs S g
+  pub sooner : (f : ℕ) → f ∈ had → roundNumber cs S f < roundNumber cs S g

@@ -9,7 +9,7 @@ use native.Mathlib.Omega.{arith}
 use lib.Dec.{eqb}
 use lib.ListN.{length, getD, set, take, drop, length-set}
 use lib.Seq.{getD-set-same, getD-set-other, take-suc-set, drop-append-le, drop-set-lt, length-take-le}
-use borrow.Author.Tests.{lt-ltb, eq-eqb, ne-eqb, eqb-true, eqb-false}
+use borrow.Author.Tests.{le-ltb, lt-ltb, eq-eqb, ne-eqb, eqb-true, eqb-false}
 use Rattle.sets.proofs.Laws.{by-test, below-or-from}
 use Rattle.meaning.specs.Model.{Clause}
 use Rattle.meaning.specs.Worklist.{Work, put, arrive, crossed, cross, crossAll}
@@ -56,6 +56,11 @@ put-entry xs i x h j =
 pub number-low : (table : List ℕ) (f : ℕ) → f < 4096 → numberIn table f ≡ getD table f 0
 unfolding numberIn
 number-low table f h = rw (lt-ltb f 4096 h)
+
+-- and of any other
+pub number-none : (table : List ℕ) (f : ℕ) → 4096 ≤ f → numberIn table f ≡ 65535
+unfolding numberIn
+number-none table f h = rw (le-ltb f 4096 h)
 
 put-number : (table : List ℕ) (f r : ℕ) → f < 4096 → 4096 ≤ length table → (g : ℕ)
     → numberIn (set table f r) g ≡ put f r (numberIn table) g

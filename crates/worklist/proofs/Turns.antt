@@ -2,21 +2,27 @@
 -- the next, and what the arrays say at the end is what closing promises.
 use Prim.Native.Nat.{ℕ, suc, _+_, _-_, _≤_, _<_}
 use mathlib.Core.Path.{_≡_, refl, sym, ap, _∙_, subst}
+use mathlib.Core.Bool.{true, false}
+use mathlib.Core.Logic.{inl, inr}
 use mathlib.Core.List.{List, [], _∷_, _++_, List·Memᴰ·head, Memᴰ·append-right}
 use native.Mathlib.Numerals.{add-one}
 use native.Mathlib.Omega.{arith}
 use lib.ListN.{length, getD, take, drop, length-append, length-drop, drop-of-length-le}
 use lib.Seq.{length-take-le, drop-cons, take-suc, take-all, getD-take}
+use lib.Dec.{ltb}
+use borrow.Author.Tests.{lt-ltb, ltb-true, ltb-false}
 use Rattle.sets.specs.Sets.{Facts, listed}
+use Rattle.sets.proofs.Laws.{passes, is-true, both, below-or-from}
 use Rattle.meaning.specs.Model.{Clause}
-use Rattle.meaning.specs.Rounds.{rounds, closure, roundNumber}
 use Rattle.meaning.specs.Worklist.{Work, bodyPlaces, entriesFrom, placesIn, cross, crossAll, taken}
-use Rattle.meaning.specs.Working.{Known, clauseAt, Sound, Within}
+use Rattle.meaning.specs.Early.{shown, roundsFor}
+use Rattle.meaning.specs.Working.{Known, clauseAt, sooner, Within, Toward}
 use Rattle.meaning.proofs.Places.{clause-in, places-le}
-use Rattle.meaning.proofs.Arriving.{arrived-few, begun-sound}
-use Rattle.meaning.proofs.Worklist.{take-first, within-number, within-entry, within-room, cross-keeps, taken-sound}
-use Rattle.meaning.proofs.Worklist.{rests-number, rests-latest, rests-crossings}
+use Rattle.meaning.proofs.Arriving.{arrived-few}
+use Rattle.meaning.proofs.Worklist.{take-first, within-number, within-entry, within-room, cross-keeps}
+use Rattle.meaning.proofs.Early.{Stopped, toward-start, toward-next, stopped-empty, stopped-waiting}
 use Rattle.worklist.specs.Arrays.{Arrays, numberIn, latestIn, said, Fits, Does, Starts, Crossable, Amid, Between}
+use Rattle.worklist.specs.Arrays.{waitsFor}
 use Rattle.worklist.proofs.Entries.{EntriesAt}
 use Rattle.worklist.proofs.Seeing.{does-none, does-then, does-same, number-low, crossAll-more}
 
@@ -105,18 +111,26 @@ module _ {cs : List Clause} {r : ℕ} {entries : List ℕ} {i : ℕ} {a b : Arra
 
 -- ---- a turn
 
+-- Whether there is one: a fact waits, and its number is smaller than that of the fact asked for.
+pub waits-more : (g : ℕ) (table queue : List ℕ) (n at : ℕ) → waitsFor g table queue n at ≡ true
+    → (at < n) × (getD table (getD queue at 0) 0 < numberIn table g)
+unfolding waitsFor
+waits-more g table queue n at e =
+    let (some, less) = both (ltb at n) (ltb (getD table (getD queue at 0) 0) (numberIn table g)) .0 (passes e) in
+    (ltb-true _ _ (is-true some), ltb-true _ _ (is-true less))
+
 -- Before the first one.
-pub between-start : {cs : List Clause} {S : Facts} → Known cs S → {before : List ℕ} {a : Arrays} → Starts cs S before a
-    → Between cs S 0 0 a
-between-start {cs} {S} known s = record {
+pub between-start : {cs : List Clause} {S : Facts} → Known cs S → {g : ℕ} → S g ≡ false → {before : List ℕ} {a : Arrays}
+    → Starts cs S before a → Between cs S g 0 0 a
+between-start {cs} {S} known {g} e s = record {
   had = [];
   here = refl;
   some = omega arith;
-  sound = subst (λ (w : Work). Sound cs S [] w) (sym (s .says)) (begun-sound known);
+  toward = subst (λ (w : Work). Toward cs S g [] w) (sym (s .says)) (toward-start known e);
   fits = s .fits;
 }
 
-module _ {cs : List Clause} {S : Facts} (known : Known cs S) {at c : ℕ} {a : Arrays} (b : Between cs S at c a) where
+module _ {cs : List Clause} {S : Facts} (known : Known cs S) {g at c : ℕ} {a : Arrays} (b : Between cs S g at c a) where
   module _ (h : at < a .n) where
     abbrev f : ℕ
     f = getD (a .queue) at 0
@@ -132,7 +146,7 @@ module _ {cs : List Clause} {S : Facts} (known : Known cs S) {at c : ℕ} {a : A
         ∙ ap (λ (g : ℕ). g ∷ rest) (getD-take (a .n) (a .queue) at 0 h)
 
     within : Within cs S (b .had) f (entriesFrom 0 cs f) (said a (suc at) c)
-    within = take-first known (b .sound) first-waits
+    within = take-first known (b .toward .sound) first-waits
 
     pub first-low : f < 4096
     first-low = b .fits .low at h
@@ -140,7 +154,7 @@ module _ {cs : List Clause} {S : Facts} (known : Known cs S) {at c : ℕ} {a : A
     -- Its number fits.
     pub first-few : getD (a .table) f 0 ≤ 4096
     first-few =
-        let few = arrived-few known (b .sound .arrived) f
+        let few = arrived-few known (b .toward .sound .arrived) f
         (Memᴰ·append-right (b .had) (rw first-waits (List·Memᴰ·head refl))) in
         omega (arith, few, number-low (a .table) f first-low)
 
@@ -172,37 +186,50 @@ module _ {cs : List Clause} {S : Facts} (known : Known cs S) {at c : ℕ} {a : A
             })
 
         -- .. and that leads to the next moment between turns.
-        pub turn-next : {d : Arrays} → Does (crossAll cs r (take (end - from) (drop from index))) a d
-            → Between cs S (at + 1) (c + (end - from)) d
+        pub turn-next : getD (a .table) f 0 < numberIn (a .table) g → {d : Arrays}
+            → Does (crossAll cs r (take (end - from) (drop from index))) a d
+            → Between cs S g (at + 1) (c + (end - from)) d
         unfolding taken
-        turn-next {d} does =
+        turn-next l {d} does =
             let x : Does (crossAll cs r (entriesFrom 0 cs f)) a d = rw (e .these) at does in
-            let done = rw (← later) at (taken-sound known (b .sound) first-waits) in
+            let less : numberIn (a .table) f < numberIn (a .table) g = rw (number-low (a .table) f first-low) l in
+            let done = rw (← later) at (toward-next known (b .toward) first-waits less) in
             let count : crossAll cs r (entriesFrom 0 cs f) (said a (suc at) c) .crossings ≡ c + (end - from) =
-            omega (arith, done .crossings, within .crossings, e .count)
+            omega (arith, done .sound .crossings, within .crossings, e .count)
             in
             rw (add-one, ← count)
             (record {
               had = b .had ++ f ∷ [];
               here = omega (arith, length-append (b .had) (f ∷ []), b .here);
               some = omega (arith, x .grows);
-              sound = subst (λ (w : Work). Sound cs S (b .had ++ f ∷ []) w) (sym (x .says (suc at) c h)) done;
+              toward = subst (λ (w : Work). Toward cs S g (b .had ++ f ∷ []) w) (sym (x .says (suc at) c h)) done;
               fits = x .fits;
             })
 
-  -- At the end none waits.
-  module _ (h : a .n ≤ at) where
-    none-waits : drop at (take (a .n) (a .queue)) ≡ []
-    none-waits =
-        let long = length-take-le (a .n) (a .queue) (omega (arith, b .fits .full, b .fits .queue)) in
-        let past : length (take (a .n) (a .queue)) ≤ at = omega arith in
-        drop-of-length-le (take (a .n) (a .queue)) past
+  -- At the end none waits that arose sooner than g: none at all, ..
+  none-waits : a .n ≤ at → drop at (take (a .n) (a .queue)) ≡ []
+  none-waits h =
+      let long = length-take-le (a .n) (a .queue) (omega (arith, b .fits .full, b .fits .queue)) in
+      let past : length (take (a .n) (a .queue)) ≤ at = omega arith in
+      drop-of-length-le (take (a .n) (a .queue)) past
 
-    pub end-number : (f : ℕ) → f < 4096 → getD (a .table) f 0 ≡ roundNumber cs S f
-    end-number f l = sym (number-low (a .table) f l) ∙ rests-number known (b .sound) none-waits f
+  -- .. or none before g.
+  pub stopped : waitsFor g (a .table) (a .queue) (a .n) at ≡ false → Stopped cs S g (said a at c)
+  unfolding waitsFor
+  stopped e = elim (below-or-from at (a .n)) [
+    | inl h ↦
+        let l = ltb-false _ _ (rw (lt-ltb at (a .n) h) at e) in
+        stopped-waiting known (b .toward) (first-waits h) (rw (number-low (a .table) _ (first-low h)) l)
+    | inr h ↦ stopped-empty known (b .toward) (none-waits h)
+  ]
 
-    pub end-latest : latestIn (a .table) (a .queue) (a .n) ≡ rounds cs S
-    end-latest = rests-latest known (b .sound) none-waits
+  -- So it is with what closing promises.
+  module _ (e : waitsFor g (a .table) (a .queue) (a .n) at ≡ false) where
+    pub end-number : (f : ℕ) → f < 4096 → getD (a .table) f 0 ≡ shown cs S (roundsFor cs S g) f
+    end-number f l = sym (number-low (a .table) f l) ∙ stopped e .number f
 
-    pub end-crossings : c ≡ placesIn (closure cs S) cs
-    end-crossings = rests-crossings known (b .sound) none-waits
+    pub end-latest : latestIn (a .table) (a .queue) (a .n) ≡ roundsFor cs S g
+    end-latest = stopped e .latest
+
+    pub end-crossings : c ≡ placesIn (sooner cs S g) cs
+    end-crossings = stopped e .crossings

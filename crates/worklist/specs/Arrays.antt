@@ -1,14 +1,14 @@
 -- Contracts between functions: the worklist as its arrays say it. No promise to the outside rests on this.
 use Prim.Native.Nat.{ℕ, zero, suc, _+_, _≤_, _<_}
 use mathlib.Core.Path.{_≡_}
-use mathlib.Core.Bool.{cond}
+use mathlib.Core.Bool.{Bool, _&&_, cond}
 use mathlib.Core.List.{List}
 use lib.Dec.{ltb}
 use lib.ListN.{length, getD, set, take, drop}
 use Rattle.sets.specs.Sets.{Facts}
 use Rattle.meaning.specs.Model.{Clause}
 use Rattle.meaning.specs.Worklist.{Work, stored, begun}
-use Rattle.meaning.specs.Working.{Known, Within, Sound, clauseAt}
+use Rattle.meaning.specs.Working.{Known, Within, Toward, clauseAt}
 use Rattle.worklist.specs.Working.{stateIn}
 
 -- what each clause still lacks, the round table, the facts that have arrived, in order, and how many they are
@@ -63,6 +63,11 @@ pub record Does (step : Work → Work) (a b : Arrays) : Type 0 where
   pub as-long : length (b .table) ≡ length (a .table)
   pub beyond : drop 4096 (b .table) ≡ drop 4096 (a .table)
 
+-- a fact waits that arose sooner than g, as far as the table tells
+unfoldable pub waitsFor : ℕ → List ℕ → List ℕ → ℕ → ℕ → Bool
+unfolding numberIn
+waitsFor g table queue n at = ltb at n && ltb (getD table (getD queue at 0) 0) (numberIn table g)
+
 -- ---- the start
 
 -- the facts of the state wait, in order
@@ -109,10 +114,10 @@ pub record Amid (cs : List Clause) (r : ℕ) (ks : List ℕ) (a : Arrays) : Type
   pub within : Within cs S had f ks (said a at crossings)
   pub fits : Fits a
 
--- between two turns: so many facts have been taken
-pub record Between (cs : List Clause) (S : Facts) (at crossings : ℕ) (a : Arrays) : Type 0 where
+-- between two turns on the way to the fact g: so many facts have been taken
+pub record Between (cs : List Clause) (S : Facts) (g at crossings : ℕ) (a : Arrays) : Type 0 where
   pub had : List ℕ
   pub here : length had ≡ at
   pub some : at ≤ a .n
-  pub sound : Sound cs S had (said a at crossings)
+  pub toward : Toward cs S g had (said a at crossings)
   pub fits : Fits a

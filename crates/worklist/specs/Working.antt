@@ -10,7 +10,8 @@ use Rattle.sets.specs.Sets.{Facts, _∈_}
 use Rattle.meaning.specs.Model.{Clause}
 use Rattle.meaning.specs.Rounds.{rounds, closure, roundNumber}
 use Rattle.meaning.specs.Worklist.{indexBelow, bodyPlaces, placesIn}
-use Rattle.meaning.specs.Working.{Known}
+use Rattle.meaning.specs.Early.{shown, roundsFor}
+use Rattle.meaning.specs.Working.{Known, sooner}
 use Rattle.records.specs.Records.{records, placeOf}
 use Rattle.records.specs.declared.Kind.{Kind}
 use Rattle.lists.specs.Lists.{AllCut}
@@ -51,8 +52,17 @@ pub record Workable (section table index ends starts : List ℕ) : Type 0 where
   pub listed : Listed (clausesIn section) index ends
   pub places : Placed section starts
 
--- "answers the number of rounds", each fact's round number, "Anything beyond is unchanged."; "The count of crossings
--- equals .. the number of body places whose fact is in the closure"
+-- "Stop closing .. in the round where it arrives" (document 02, wish 8), for the fact g: how many rounds are run, and
+-- what the table shows then; "Anything beyond is unchanged."; the places of the facts that arose sooner are crossed
+pub record WorksFor (cs : List Clause) (S : Facts) (g : ℕ) (before after : List ℕ) (r : Worked) : Type 0 where
+  pub rounds : r .rounds ≡ roundsFor cs S g
+  pub crossings : r .crossings ≡ placesIn (sooner cs S g) cs
+  pub as-long : length after ≡ length before
+  pub entries : (f : ℕ) → f < 4096 → getD after f 0 ≡ shown cs S (roundsFor cs S g) f
+  pub beyond : drop 4096 after ≡ drop 4096 before
+
+-- in full: "answers the number of rounds", each fact's round number, "Anything beyond is unchanged."; "The count of
+-- crossings equals .. the number of body places whose fact is in the closure"
 pub record Works (cs : List Clause) (S : Facts) (before after : List ℕ) (r : Worked) : Type 0 where
   pub rounds : r .rounds ≡ rounds cs S
   pub crossings : r .crossings ≡ placesIn (closure cs S) cs

@@ -8,9 +8,9 @@ ghost use Rattle.records.specs.declared.Kind.{Kind};
 ghost use Rattle.lists.specs.Lists.{AllCut};
 ghost use Rattle.meaning.specs.Worklist.{cross, crossAll};
 ghost use Rattle.files.specs.Files.{clausesIn};
-ghost use Rattle.worklist.specs.Working.{stateIn, Begun, Judged, Placed, Listed, Workable, Works};
+ghost use Rattle.worklist.specs.Working.{stateIn, Begun, Judged, Placed, Listed, Workable, WorksFor};
 ghost use Rattle.worklist.specs.Arrays.{arrays, latestIn, Does, Gathered, Starts, Arrives, Crossable};
-ghost use Rattle.worklist.specs.Arrays.{Amid, Between};
+ghost use Rattle.worklist.specs.Arrays.{Amid, Between, numberIn, waitsFor};
 
 // What closing comes to: the number of rounds, and how many body places were crossed.
 pub struct Worked {
@@ -19,6 +19,14 @@ pub struct Worked {
 }
 
 const OUTSIDE: u16 = 65535;
+
+// A fact's number in the table; only facts below 4,096 have one.
+fn number(table: &[u16], f: usize) -> u16
+    requires { ⌜ 4096 ≤ length (now table) ⌝ }
+    ensures { λ r. ⌜ r ≡ numberIn (now (table .entry)) f ⌝ }
+{
+    if f < 4096 { table[f] } else { OUTSIDE }
+}
 
 // The facts of the state wait, ascending; answers how many they are.
 fn gather(table: &[u16], queue: &mut [u16; 4096]) -> usize
@@ -145,7 +153,20 @@ fn latest(table: &[u16], queue: &[u16; 4096], n: usize) -> usize
     table[queue[n - 1] as usize] as usize
 }
 
-// Facts are taken, in the order in which they arrived, until none waits.
+// Whether a fact waits that arose sooner than the one asked for, which has not arrived as long as it has no number.
+fn waits(table: &[u16], queue: &[u16; 4096], n: usize, at: usize, asked: usize) -> bool
+    requires { ⌜ (n ≤ 4096) × (4096 ≤ length (now table))
+        × ((i : ℕ) → i < n → getD (now queue) i 0 < 4096) ⌝ }
+    ensures { λ r. ⌜ r ≡ waitsFor asked (now (table .entry)) (now (queue .entry)) n at ⌝ }
+{
+    if at < n {
+        return table[queue[at] as usize] < number(table, asked);
+    }
+    false
+}
+
+// Facts are taken, in the order in which they arrived, until none waits that arose sooner than the one asked for: then
+// its round is finished.
 fn drain(
     clauses: &[u8],
     table: &mut [u16],
@@ -155,17 +176,18 @@ fn drain(
     lacks: &mut [u8; 4096],
     queue: &mut [u16; 4096],
     begun: usize,
+    asked: usize,
 ) -> Worked
     requires { ⌜ Judged (now clauses) (stateIn (now table)) × Listed (clausesIn (now clauses)) (now index) (now ends)
-        × Placed (now clauses) (now starts) × Between (clausesIn (now clauses)) (stateIn (now table)) 0 0
+        × Placed (now clauses) (now starts) × Between (clausesIn (now clauses)) (stateIn (now table)) asked 0 0
         (arrays (now lacks) (now table) (now queue) begun) ⌝ }
-    ensures { λ r. ⌜ Works (clausesIn (now (clauses .entry))) (stateIn (now (table .entry))) (now (table .entry))
-        (now (table .exit)) r ⌝ }
+    ensures { λ r. ⌜ WorksFor (clausesIn (now (clauses .entry))) (stateIn (now (table .entry))) asked
+        (now (table .entry)) (now (table .exit)) r ⌝ }
 {
     let mut n = begun;
     let mut at = 0;
     let mut crossings = 0;
-    while at < n {
+    while waits(table, queue, n, at, asked) {
         let f = queue[at] as usize;
         let from = ends[f] as usize;
         let end = ends[f + 1] as usize;
@@ -181,13 +203,28 @@ fn drain(
     }
 }
 
-// Works by the index, under judged clauses: the table, of at least 4,096 entries, holds round 0, and afterwards every
-// fact's round number. The caller has built the index; there is a start for each clause.
-pub fn run(clauses: &[u8], table: &mut [u16], index: &[u16], ends: &[u16], starts: &[u16]) -> Worked
+// Works by the index, under judged clauses, up to the round in which the fact asked for arrives: the table, of at least
+// 4,096 entries, holds round 0, and afterwards the round number of every fact that has arrived. For a number of 4,096
+// or more, which is no fact, that is all rounds. The caller has built the index; there is a start for each clause.
+pub fn run(
+    clauses: &[u8],
+    table: &mut [u16],
+    index: &[u16],
+    ends: &[u16],
+    starts: &[u16],
+    asked: usize,
+) -> Worked
     requires { ⌜ Workable (now clauses) (now table) (now index) (now ends) (now starts) ⌝ }
-    ensures { λ r. ⌜ Works (clausesIn (now (clauses .entry))) (stateIn (now (table .entry))) (now (table .entry))
-        (now (table .exit)) r ⌝ }
+    ensures { λ r. ⌜ WorksFor (clausesIn (now (clauses .entry))) (stateIn (now (table .entry))) asked
+        (now (table .entry)) (now (table .exit)) r ⌝ }
 {
+    // The heads of clauses with an empty body are not shown beside a stored fact.
+    if number(table, asked) == 0 {
+        return Worked {
+            rounds: 0,
+            crossings: 0,
+        };
+    }
     let mut lacks = [0u8; 4096];
     let mut queue = [0u16; 4096];
     let stored = gather(table, &mut queue);
@@ -201,5 +238,6 @@ pub fn run(clauses: &[u8], table: &mut [u16], index: &[u16], ends: &[u16], start
         &mut lacks,
         &mut queue,
         n,
+        asked,
     )
 }

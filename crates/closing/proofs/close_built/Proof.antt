@@ -7,6 +7,7 @@ use Rattle.facts.specs.Facts.{members}
 use Rattle.files.specs.Files.{factCount}
 use Rattle.closing.specs.Closing.{someFrom}
 use Rattle.closing.proofs.Alone.{some-from}
+use Rattle.closing.proofs.Ways.{works-whole}
 use Rattle.closing.proofs.Indexing.{cleared, state-refused, crosses-refused, crosses-worked}
 use borrow.Author.Needs.{needs}
 use Rattle.closing.proofs.close_built.Statement.{statement}
@@ -67,7 +68,9 @@ returns-2 c =
     let closed = c .before .before in
     let built = closed .before .before .before .before .before .before .before in
     let tested = built .before .before .before .before in
-    crosses-worked _ _ _ _ (sym (from-is (tested .before)) ∙ tested .if1 .left) (closed .close-worked .ensures)
+    let s = start (tested .before) in
+    crosses-worked _ _ _ _ (sym (from-is (tested .before)) ∙ tested .if1 .left)
+    (works-whole (now (s .args .model)) (now (s .args .state)) (s .pre .0) (closed .close-worked .ensures))
     (built .build-index .ensures .holds)
 
 pub close-built-spec : {M : Type 1} → statement M

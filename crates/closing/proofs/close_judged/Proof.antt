@@ -1,6 +1,7 @@
 -- `closing::close_judged` meets its contract: both ways keep the one promise.
 use native.Mathlib.Omega.{arith}
-use Rattle.closing.proofs.Ways.{index-lent}
+use denote.Ref.{now}
+use Rattle.closing.proofs.Ways.{index-lent, works-whole}
 use borrow.Author.Needs.{needs}
 use Rattle.closing.proofs.close_judged.Statement.{statement}
 use Rattle.closing.proofs.close_judged.Tie as tie
@@ -24,7 +25,14 @@ same-length-2 : tie.Need-same-length-2
 same-length-2 c = search needs
 
 returns-2 : tie.Need-returns-2
-returns-2 c = search needs
+returns-2 c =
+    let worked = c .before .before in
+    let s = worked .before .before .before .before .before .before .before .before .before in
+    let whole = works-whole (now (s .args .model)) (now (s .args .state)) (s .pre .0) (worked .close-worked .ensures) in
+    record {
+      number = whole .rounds;
+      filled = record { as-long = whole .as-long; entries = whole .entries; beyond = whole .beyond };
+    }
 
 pub close-judged-spec : {M : Type 1} → statement M
 close-judged-spec =

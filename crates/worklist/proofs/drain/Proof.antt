@@ -1,6 +1,7 @@
--- `worklist::drain` meets its contract: the facts before `at` have been taken.
+-- `worklist::drain` meets its contract: the facts before `at` have been taken, and all of them arose sooner than the one
+-- asked for.
 use Prim.Native.Nat.{ℕ, _+_, _-_, _<_}
-use mathlib.Core.Path.{_≡_, refl, _∙_}
+use mathlib.Core.Path.{_≡_, refl, sym, _∙_}
 use mathlib.Core.List.{List}
 use native.Mathlib.Omega.{arith}
 use lib.ListN.{length, getD, drop}
@@ -10,30 +11,38 @@ use Rattle.meaning.specs.Working.{Known}
 use Rattle.meaning.proofs.Theorems.{index-length}
 use Rattle.files.specs.Files.{clausesIn}
 use Rattle.worklist.specs.Working.{stateIn}
-use Rattle.worklist.specs.Arrays.{Arrays, arrays, Between}
+use Rattle.worklist.specs.Arrays.{Arrays, arrays, numberIn, Between}
 use Rattle.worklist.proofs.Entries.{EntriesAt, entries-at, places-fit}
-use Rattle.worklist.proofs.Turns.{first-low, first-few, turn-count, turn-amid, turn-next}
+use Rattle.worklist.proofs.Turns.{waits-more, first-low, first-few, turn-count, turn-amid, turn-next}
 use Rattle.worklist.proofs.Turns.{end-number, end-latest, end-crossings}
 use Rattle.worklist.proofs.drain.Statement.{statement}
 use Rattle.worklist.proofs.drain.Tie as tie
 
 abbrev Inv-loop : tie.InvT-loop
-Inv-loop clauses table₀ index ends starts lacks₀ queue₀ begun n₀ at₀ crossings₀ table lacks queue n at crossings =
-    Between (clausesIn clauses) (stateIn table₀) at crossings (arrays lacks table queue n)
+Inv-loop clauses table₀ index ends starts lacks₀ queue₀ begun asked n₀ at₀ crossings₀ table lacks queue n at crossings =
+    Between (clausesIn clauses) (stateIn table₀) asked at crossings (arrays lacks table queue n)
     × (length table ≡ length table₀)
     × (drop 4096 table ≡ drop 4096 table₀)
 
 abbrev μ-loop : tie.MeasureT-loop
-μ-loop clauses table₀ index ends starts lacks₀ queue₀ begun n₀ at₀ crossings₀ table lacks queue n at crossings =
+μ-loop clauses table₀ index ends starts lacks₀ queue₀ begun asked n₀ at₀ crossings₀ table lacks queue n at crossings =
     4096 - at
 
 loop-holds : tie.Need-loop-holds Inv-loop μ-loop
 loop-holds c = (c .before .before .before .before .before .pre .3, refl, refl)
 
+waits-requires : tie.Need-waits-requires Inv-loop μ-loop
+waits-requires c κs =
+    let fits = c .before .before .loop .inv .0 .fits in
+    (fits .full, fits .table, fits .low)
+
 -- In a turn: the first fact that waits, and its entries.
-module _ (c : tie.In-loop Inv-loop μ-loop) where
+module _ (c : tie.Then1 Inv-loop μ-loop) where
+  abbrev head : tie.At-loop Inv-loop μ-loop
+  head = c .before .before .before .before
+
   abbrev entry : tie.Start Inv-loop μ-loop
-  entry = c .before .before .before .before .before .before .before
+  entry = head .before .before .before .before .before .before
 
   abbrev cs : List Clause
   cs = clausesIn (now (entry .args .clauses))
@@ -42,22 +51,25 @@ module _ (c : tie.In-loop Inv-loop μ-loop) where
   known = entry .pre .0 .known
 
   abbrev at : ℕ
-  at = c .before .loop .at
+  at = head .loop .at
 
   abbrev now-arrays : Arrays
-  now-arrays = arrays (c .before .loop .lacks) (c .before .loop .table) (c .before .loop .queue) (c .before .loop .n)
+  now-arrays = arrays (head .loop .lacks) (head .loop .table) (head .loop .queue) (head .loop .n)
 
-  abbrev between : Between cs (stateIn (now (entry .args .table))) at (c .before .loop .crossings) now-arrays
-  between = c .before .loop .inv .0
+  abbrev between : Between cs (stateIn (now (entry .args .table))) (entry .args .asked) at (head .loop .crossings) now-arrays
+  between = head .loop .inv .0
 
   abbrev f : ℕ
-  f = getD (c .before .loop .queue) at 0
+  f = getD (head .loop .queue) at 0
+
+  waiting : (at < head .loop .n) × (getD (head .loop .table) f 0 < numberIn (head .loop .table) (entry .args .asked))
+  waiting = waits-more _ (head .loop .table) (head .loop .queue) (head .loop .n) at (sym (c .before .waits .ensures) ∙ c .if1 .taken)
 
   few : at < 4096
-  few = omega (arith, c .loop-test .taken, between .fits .full)
+  few = omega (arith, waiting .0, between .fits .full)
 
   low : f < 4096
-  low = first-low known between (c .loop-test .taken)
+  low = first-low known between (waiting .0)
 
   here : EntriesAt cs (now (entry .args .index)) f (getD (now (entry .args .ends)) f 0)
       (getD (now (entry .args .ends)) (f + 1) 0)
@@ -116,16 +128,16 @@ slice-read-r c =
 add-r : tie.Need-add-r Inv-loop μ-loop
 add-r c =
     let turn = c .before .before .before .before .before in
-    omega (arith, first-few (known turn) (between turn) (turn .loop-test .taken))
+    omega (arith, first-few (known turn) (between turn) (waiting turn .0))
 
 cross-all-requires : tie.Need-cross-all-requires Inv-loop μ-loop
 cross-all-requires c κs =
     let turn = c .before .before .before .before .before .before .before .before in
     let entry = entry turn in
-    (entry .pre .0 .cut, entry .pre .2, turn-amid (known turn) (between turn) (turn .loop-test .taken) (here turn) refl)
+    (entry .pre .0 .cut, entry .pre .2, turn-amid (known turn) (between turn) (waiting turn .0) (here turn) refl)
 
 -- After it: the turn that it was.
-abbrev turn : tie.After-slice-known3 Inv-loop μ-loop → tie.In-loop Inv-loop μ-loop
+abbrev turn : tie.After-slice-known3 Inv-loop μ-loop → tie.Then1 Inv-loop μ-loop
 turn c = c .before .before .before .before .before .before .before .before .before .before .before
 
 sub-crossings : tie.Need-sub-crossings Inv-loop μ-loop
@@ -134,7 +146,7 @@ sub-crossings c = here (turn c) .order
 add-crossings : tie.Need-add-crossings Inv-loop μ-loop
 add-crossings c =
     let w = turn c in
-    let count = turn-count (known w) (between w) (w .loop-test .taken) (here w) in
+    let count = turn-count (known w) (between w) (waiting w .0) (here w) in
     omega (arith, count, places-fit (entry w .pre .1) (index-length (known w)))
 
 add-at : tie.Need-add-at Inv-loop μ-loop
@@ -147,26 +159,33 @@ loop-again : tie.Need-loop-again Inv-loop μ-loop
 loop-again c =
     let w = turn c in
     let done = c .before .before .cross-all .ensures in (
-      turn-next (known w) (between w) (w .loop-test .taken) (here w) refl done,
-      done .as-long ∙ w .before .loop .inv .1,
-      done .beyond ∙ w .before .loop .inv .2,
+      turn-next (known w) (between w) (waiting w .0) (here w) refl (waiting w .1) done,
+      done .as-long ∙ head w .loop .inv .1,
+      done .beyond ∙ head w .loop .inv .2,
     )
 
 latest-requires : tie.Need-latest-requires Inv-loop μ-loop
 latest-requires c κs =
-    let fits = c .before .before .before .loop .inv .0 .fits in
+    let fits = c .before .before .before .before .before .before .loop .inv .0 .fits in
     (fits .full, fits .table, fits .low)
 
+-- At the end: the loop's head, and what was asked there.
+abbrev last : tie.After-latest Inv-loop μ-loop → tie.Else1 Inv-loop μ-loop
+last c = c .before .before .before
+
+abbrev out : tie.After-latest Inv-loop μ-loop → tie.At-loop Inv-loop μ-loop
+out c = last c .before .before .before .before
+
 same-length : tie.Need-same-length Inv-loop μ-loop
-same-length c = c .before .before .before .before .loop .inv .1
+same-length c = out c .loop .inv .1
 
 returns : tie.Need-returns Inv-loop μ-loop
 returns c =
-    let loop = c .before .before .before .before in
+    let loop = out c in
     let entry = loop .before .before .before .before .before .before in
     let known = entry .pre .0 .known in
     let between = loop .loop .inv .0 in
-    let done = c .before .before .before .loop-test .left in
+    let done = sym (last c .before .waits .ensures) ∙ last c .if1 .left in
     record {
       rounds = c .latest .ensures ∙ end-latest known between done;
       crossings = end-crossings known between done;
@@ -182,6 +201,7 @@ drain-spec =
     Inv-loop
     μ-loop
     loop-holds
+    waits-requires
     mul-f
     element-copy-out-f
     cast-f

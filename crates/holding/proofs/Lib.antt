@@ -1,0 +1,3 @@
+-- `Theorems` is for readers; `Answers` is for the proofs here.
+pub mod Answers
+pub mod Theorems

@@ -1,0 +1,2 @@
+-- What is promised of asking for one fact.
+pub mod Holding

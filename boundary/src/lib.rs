@@ -128,6 +128,27 @@ extern "C" {
     ) -> usize;
 }
 
+/// One call of the library: first the slices that are read, then those that are written.
+macro_rules! call {
+    ($function:ident, $($read:expr),* => $($written:expr),*) => {
+        // The slices are live and, where they are written, lent to this call alone.
+        unsafe {
+            $function(
+                $($read.as_ptr(), $read.len(),)*
+                $($written.as_mut_ptr(), $written.len(),)*
+            )
+        }
+    };
+}
+
+/// What is lent to whatever runs a trace by an index. What it holds before says nothing.
+pub struct Lent<'a> {
+    pub state: &'a mut [u8],
+    pub table: &'a mut [u16],
+    pub names: &'a mut [u8],
+    pub index: &'a mut [u16],
+}
+
 #[derive(Clone, Copy, Debug, PartialEq, Eq)]
 pub struct Verdict {
     pub number: u8,
@@ -196,23 +217,7 @@ pub fn check_into(
     names: &mut [u8],
     out: &mut [u64],
 ) -> u8 {
-    // The slices are live and, where they are written, lent to this call alone.
-    unsafe {
-        cantivorex_check(
-            model.as_ptr(),
-            model.len(),
-            trace.as_ptr(),
-            trace.len(),
-            state.as_mut_ptr(),
-            state.len(),
-            table.as_mut_ptr(),
-            table.len(),
-            names.as_mut_ptr(),
-            names.len(),
-            out.as_mut_ptr(),
-            out.len(),
-        )
-    }
+    call!(cantivorex_check, model, trace => state, table, names, out)
 }
 
 /// Closing by itself: the number of rounds, or the refusal's number with nothing changed.
@@ -226,32 +231,14 @@ pub fn close(model: &[u8], state: &[u8], table: &mut [u16]) -> Result<usize, u8>
 
 /// The same as the library has it: 0 and the rounds in the first entry of `out`, or the refusal's number.
 pub fn close_into(model: &[u8], state: &[u8], table: &mut [u16], out: &mut [u64]) -> u8 {
-    unsafe {
-        cantivorex_close(
-            model.as_ptr(),
-            model.len(),
-            state.as_ptr(),
-            state.len(),
-            table.as_mut_ptr(),
-            table.len(),
-            out.as_mut_ptr(),
-            out.len(),
-        )
-    }
+    call!(cantivorex_close, model, state => table, out)
 }
 
 /// The verdict as `check` gives it, by an index lent: long chains of clauses take no longer than short ones. ROOM
 /// where the index has fewer entries than the model has body places.
-pub fn check_indexed(
-    model: &[u8],
-    trace: &[u8],
-    state: &mut [u8],
-    table: &mut [u16],
-    names: &mut [u8],
-    index: &mut [u16],
-) -> Verdict {
+pub fn check_indexed(model: &[u8], trace: &[u8], lent: &mut Lent) -> Verdict {
     let mut out = [0; VALUES];
-    check_indexed_into(model, trace, state, table, names, index, &mut out);
+    check_indexed_into(model, trace, lent, &mut out);
     Verdict::of(out)
 }
 
@@ -260,49 +247,18 @@ pub const SMALL_MODEL: usize = 512;
 
 /// The check in the form that is the sooner done for a model of this size. Both have the same verdict and leave the
 /// same in state, table and names; the index stays where it isn't needed.
-pub fn check_by_size(
-    model: &[u8],
-    trace: &[u8],
-    state: &mut [u8],
-    table: &mut [u16],
-    names: &mut [u8],
-    index: &mut [u16],
-) -> Verdict {
+pub fn check_by_size(model: &[u8], trace: &[u8], lent: &mut Lent) -> Verdict {
     if model.len() < SMALL_MODEL {
-        check(model, trace, state, table, names)
+        check(model, trace, lent.state, lent.table, lent.names)
     } else {
-        check_indexed(model, trace, state, table, names, index)
+        check_indexed(model, trace, lent)
     }
 }
 
 /// The same as the library has it.
-pub fn check_indexed_into(
-    model: &[u8],
-    trace: &[u8],
-    state: &mut [u8],
-    table: &mut [u16],
-    names: &mut [u8],
-    index: &mut [u16],
-    out: &mut [u64],
-) -> u8 {
-    unsafe {
-        cantivorex_check_indexed(
-            model.as_ptr(),
-            model.len(),
-            trace.as_ptr(),
-            trace.len(),
-            state.as_mut_ptr(),
-            state.len(),
-            table.as_mut_ptr(),
-            table.len(),
-            names.as_mut_ptr(),
-            names.len(),
-            index.as_mut_ptr(),
-            index.len(),
-            out.as_mut_ptr(),
-            out.len(),
-        )
-    }
+pub fn check_indexed_into(model: &[u8], trace: &[u8], lent: &mut Lent, out: &mut [u64]) -> u8 {
+    let Lent { state, table, names, index } = lent;
+    call!(cantivorex_check_indexed, model, trace => state, table, names, index, out)
 }
 
 /// What closing by an index answers: the number of rounds, and the body places whose fact is in the closure.
@@ -340,35 +296,14 @@ pub fn close_indexed_into(
     index: &mut [u16],
     out: &mut [u64],
 ) -> u8 {
-    unsafe {
-        cantivorex_close_indexed(
-            model.as_ptr(),
-            model.len(),
-            state.as_ptr(),
-            state.len(),
-            table.as_mut_ptr(),
-            table.len(),
-            index.as_mut_ptr(),
-            index.len(),
-            out.as_mut_ptr(),
-            out.len(),
-        )
-    }
+    call!(cantivorex_close_indexed, model, state => table, index, out)
 }
 
 /// How many rules fire in the last state that a trace reaches, their numbers being at the front of the list, or the
 /// refusal's number with nothing changed. ROOM where the list has fewer entries than the model has rules.
-pub fn rules(
-    model: &[u8],
-    trace: &[u8],
-    state: &mut [u8],
-    table: &mut [u16],
-    names: &mut [u8],
-    index: &mut [u16],
-    list: &mut [u16],
-) -> Result<usize, u8> {
+pub fn rules(model: &[u8], trace: &[u8], lent: &mut Lent, list: &mut [u16]) -> Result<usize, u8> {
     let mut out = [0];
-    match rules_into(model, trace, state, table, names, index, list, &mut out) {
+    match rules_into(model, trace, lent, list, &mut out) {
         0 => Ok(out[0] as usize),
         number => Err(number),
     }
@@ -378,33 +313,12 @@ pub fn rules(
 pub fn rules_into(
     model: &[u8],
     trace: &[u8],
-    state: &mut [u8],
-    table: &mut [u16],
-    names: &mut [u8],
-    index: &mut [u16],
+    lent: &mut Lent,
     list: &mut [u16],
     out: &mut [u64],
 ) -> u8 {
-    unsafe {
-        cantivorex_rules(
-            model.as_ptr(),
-            model.len(),
-            trace.as_ptr(),
-            trace.len(),
-            state.as_mut_ptr(),
-            state.len(),
-            table.as_mut_ptr(),
-            table.len(),
-            names.as_mut_ptr(),
-            names.len(),
-            index.as_mut_ptr(),
-            index.len(),
-            list.as_mut_ptr(),
-            list.len(),
-            out.as_mut_ptr(),
-            out.len(),
-        )
-    }
+    let Lent { state, table, names, index } = lent;
+    call!(cantivorex_rules, model, trace => state, table, names, index, list, out)
 }
 
 /// What a model has: how many facts, clauses, rules and goals, its attack states and formulas together.
@@ -431,7 +345,7 @@ pub fn count(model: &[u8]) -> Result<Counts, u8> {
 /// The same as the library has it: 0 and the four figures at the front of `out`, or the refusal's number; with fewer
 /// entries ROOM and no change.
 pub fn count_into(model: &[u8], out: &mut [u64]) -> u8 {
-    unsafe { cantivorex_count(model.as_ptr(), model.len(), out.as_mut_ptr(), out.len()) }
+    call!(cantivorex_count, model => out)
 }
 
 /// Copies the bytes at a place of the file marked to the front of `out` as far as it has room, and

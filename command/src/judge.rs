@@ -4,7 +4,7 @@
 use crate::layout;
 pub use library::Counts;
 use library::{
-    Verdict, INDEX_ENTRIES, LIST_ENTRIES, NAMES_BYTES, NONE, STATE_BYTES, TABLE_ENTRIES,
+    Lent, Verdict, INDEX_ENTRIES, LIST_ENTRIES, NAMES_BYTES, NONE, STATE_BYTES, TABLE_ENTRIES,
 };
 use std::cell::RefCell;
 
@@ -31,21 +31,29 @@ pub fn check(model: &[u8], trace: &[u8]) -> Judged {
     let mut table = vec![0; TABLE_ENTRIES];
     let mut names = vec![0; NAMES_BYTES];
     let verdict = INDEX.with_borrow_mut(|index| {
-        library::check_by_size(model, trace, &mut state, &mut table, &mut names, index)
+        let lent = &mut Lent { state: &mut state, table: &mut table, names: &mut names, index };
+        library::check_by_size(model, trace, lent)
     });
     Judged { verdict, state, table, names }
 }
 
 /// The rules that can fire in the last state that a trace reaches, or the refusal's number.
 pub fn rules(model: &[u8], trace: &[u8]) -> Result<Vec<usize>, u8> {
-    let mut state = vec![0; STATE_BYTES];
-    let mut table = vec![0; TABLE_ENTRIES];
-    let mut names = vec![0; NAMES_BYTES];
     let mut list = vec![0; LIST_ENTRIES];
-    let count = INDEX.with_borrow_mut(|index| {
-        library::rules(model, trace, &mut state, &mut table, &mut names, index, &mut list)
-    })?;
+    let count = lending(|lent| library::rules(model, trace, lent, &mut list))?;
     Ok(list[..count].iter().map(|number| *number as usize).collect())
+}
+
+/// Buffers for a call whose answer is all that is asked for.
+fn lending<T>(ask: impl FnOnce(&mut Lent) -> T) -> T {
+    INDEX.with_borrow_mut(|index| {
+        ask(&mut Lent {
+            state: &mut [0; STATE_BYTES],
+            table: &mut [0; TABLE_ENTRIES],
+            names: &mut [0; NAMES_BYTES],
+            index,
+        })
+    })
 }
 
 impl Judged {

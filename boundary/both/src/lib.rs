@@ -5,7 +5,8 @@ pub mod plain;
 pub mod watch;
 pub mod worklist;
 
-use cantivorex::{CLOSED, FIGURES, VALUES};
+use cantivorex::{Lent, CLOSED, FIGURES, VALUES};
+use second::gen::Pair;
 use second::{Closed, Counts, Verdict, ROOM};
 use std::fmt::Debug;
 
@@ -47,101 +48,102 @@ fn values(v: &Verdict) -> [u64; VALUES] {
     [number, step, fact, rounds, held, kind, round, mark, start, len].map(|n| n as u64)
 }
 
-/// The buffers of a check, each with its guards; with an index where one is lent.
+/// What a run is lent, to be owned: as it is, or each part between guards.
 #[derive(Clone)]
-struct Buffers {
-    state: Vec<u8>,
-    table: Vec<u16>,
-    names: Vec<u8>,
-    index: Option<Vec<u16>>,
+pub struct Buffers {
+    pub state: Vec<u8>,
+    pub table: Vec<u16>,
+    pub names: Vec<u8>,
+    pub index: Vec<u16>,
 }
 
 impl Buffers {
-    fn new(state: &[u8], table: &[u16], names: &[u8], index: Option<&[u16]>) -> Buffers {
+    /// As long as a pair of a stream has them, full of leftovers.
+    pub fn of(pair: &Pair, seed: u64, index: u64) -> Buffers {
+        let (state, table, names) = pair.buffers(seed, index);
+        Buffers { state, table, names, index: pair.index(seed, index) }
+    }
+
+    pub fn lent(&mut self) -> Lent<'_> {
+        let Buffers { state, table, names, index } = self;
+        Lent { state, table, names, index }
+    }
+
+    fn guarded(lent: &Lent) -> Buffers {
         Buffers {
-            state: guarded(state, 0xC3),
-            table: guarded(table, 0xC3C3),
-            names: guarded(names, 0xC3),
-            index: index.map(|index| guarded(index, 0xC3C3)),
+            state: guarded(lent.state, 0xC3),
+            table: guarded(lent.table, 0xC3C3),
+            names: guarded(lent.names, 0xC3),
+            index: guarded(lent.index, 0xC3C3),
         }
     }
 
-    /// The library's check in them, of the form that they are for.
-    fn ask(&mut self, model: &[u8], trace: &[u8], out: &mut [u64]) -> u8 {
-        let (state, table) = (inside(&mut self.state), inside(&mut self.table));
-        let names = inside(&mut self.names);
-        match &mut self.index {
-            None => cantivorex::check_into(model, trace, state, table, names, out),
-            Some(index) => {
-                let index = inside(index);
-                cantivorex::check_indexed_into(model, trace, state, table, names, index, out)
-            }
-        }
-    }
-
-    /// The library's list of rules likewise; the index is lent.
-    fn list_rules(&mut self, model: &[u8], trace: &[u8], list: &mut [u16], out: &mut [u64]) -> u8 {
-        let (state, table) = (inside(&mut self.state), inside(&mut self.table));
-        let (names, index) = (inside(&mut self.names), self.index.as_mut());
-        let index = index.map(|index| inside(index)).unwrap_or_default();
-        cantivorex::rules_into(model, trace, state, table, names, index, list, out)
-    }
-
-    /// The library's check against the verdict of the second program, and what that left.
-    fn check(
-        mut self,
-        model: &[u8],
-        trace: &[u8],
-        verdict: &Verdict,
-        theirs: &Buffers,
-    ) -> Result<(), String> {
-        let mut out = guarded(&[7; VALUES + 1], 9);
-        let mut out_2 = out.clone();
-        let number = self.ask(model, trace, inside(&mut out));
-        inside(&mut out_2)[..VALUES].copy_from_slice(&values(verdict));
-        same("the number", number, verdict.number)?;
-        same_area("the verdict's values", &out, &out_2)?;
-        self.same("", theirs)?;
-        part(model, trace, verdict.mark, verdict.start, verdict.len, verdict.len)
+    /// What lies between the guards.
+    fn within(&mut self) -> Lent<'_> {
+        let Buffers { state, table, names, index } = self;
+        let (state, names) = (inside(state), inside(names));
+        Lent { state, table: inside(table), names, index: inside(index) }
     }
 
     fn same(&self, when: &str, theirs: &Buffers) -> Result<(), String> {
         same_area(&format!("the state{when}"), &self.state, &theirs.state)?;
         same_area(&format!("the table{when}"), &self.table, &theirs.table)?;
         same_area(&format!("the names{when}"), &self.names, &theirs.names)?;
-        match (&self.index, &theirs.index) {
-            (Some(ours), Some(theirs)) => same_area(&format!("the index{when}"), ours, theirs),
-            _ => Ok(()),
-        }
+        same_area(&format!("the index{when}"), &self.index, &theirs.index)
     }
 }
 
-/// A verdict of both, or what differs. The buffers are left as both leave them.
-pub fn check(
-    model: &[u8],
-    trace: &[u8],
-    state: &mut [u8],
-    table: &mut [u16],
-    names: &mut [u8],
-) -> Result<Verdict, String> {
-    let ours = Buffers::new(state, table, names, None);
-    let verdict = second::check(model, trace, state, table, names);
-    ours.check(model, trace, &verdict, &Buffers::new(state, table, names, None))?;
+/// The two forms of a check.
+#[derive(Clone, Copy)]
+pub enum Form {
+    Plain,
+    Indexed,
+}
+
+impl Form {
+    /// The library's check; without an index the one that is there is not lent.
+    fn ask(self, model: &[u8], trace: &[u8], lent: &mut Lent, out: &mut [u64]) -> u8 {
+        let Lent { state, table, names, .. } = lent;
+        match self {
+            Form::Plain => cantivorex::check_into(model, trace, state, table, names, out),
+            Form::Indexed => cantivorex::check_indexed_into(model, trace, lent, out),
+        }
+    }
+
+    /// The library's check against the verdict of the second program, and what that left.
+    fn is(
+        self,
+        model: &[u8],
+        trace: &[u8],
+        mut ours: Buffers,
+        verdict: &Verdict,
+        left: &Lent,
+    ) -> Result<(), String> {
+        let mut out = guarded(&[7; VALUES + 1], 9);
+        let mut out_2 = out.clone();
+        let number = self.ask(model, trace, &mut ours.within(), inside(&mut out));
+        inside(&mut out_2)[..VALUES].copy_from_slice(&values(verdict));
+        same("the number", number, verdict.number)?;
+        same_area("the verdict's values", &out, &out_2)?;
+        ours.same("", &Buffers::guarded(left))?;
+        part(model, trace, verdict.mark, verdict.start, verdict.len, verdict.len)
+    }
+}
+
+/// A verdict of both, or what differs. The buffers are left as both leave them, and the index as it is.
+pub fn check(model: &[u8], trace: &[u8], lent: &mut Lent) -> Result<Verdict, String> {
+    let ours = Buffers::guarded(lent);
+    let verdict = second::check(model, trace, lent.state, lent.table, lent.names);
+    Form::Plain.is(model, trace, ours, &verdict, lent)?;
     Ok(verdict)
 }
 
 /// The same with an index lent.
-pub fn check_indexed(
-    model: &[u8],
-    trace: &[u8],
-    state: &mut [u8],
-    table: &mut [u16],
-    names: &mut [u8],
-    index: &mut [u16],
-) -> Result<Verdict, String> {
-    let ours = Buffers::new(state, table, names, Some(index));
+pub fn check_indexed(model: &[u8], trace: &[u8], lent: &mut Lent) -> Result<Verdict, String> {
+    let ours = Buffers::guarded(lent);
+    let Lent { state, table, names, index } = lent;
     let verdict = second::check_indexed(model, trace, state, table, names, index);
-    ours.check(model, trace, &verdict, &Buffers::new(state, table, names, Some(index)))?;
+    Form::Indexed.is(model, trace, ours, &verdict, lent)?;
     Ok(verdict)
 }
 
@@ -150,18 +152,17 @@ pub fn check_indexed(
 pub fn check_forms(
     model: &[u8],
     trace: &[u8],
-    state: &mut [u8],
-    table: &mut [u16],
-    names: &mut [u8],
-    index: &mut [u16],
+    lent: &mut Lent,
 ) -> Result<(Verdict, Verdict), String> {
-    let ours = Buffers::new(state, table, names, None);
-    let indexed = check_indexed(model, trace, state, table, names, index)
+    let mut ours = Buffers::guarded(lent);
+    let indexed = check_indexed(model, trace, lent)
         .map_err(|difference| format!("with an index, {difference}"))?;
     if indexed.number == ROOM {
-        return Ok((indexed, check(model, trace, state, table, names)?));
+        return Ok((indexed, check(model, trace, lent)?));
     }
-    ours.check(model, trace, &indexed, &Buffers::new(state, table, names, None))?;
+    // It is not lent, so that it stays as it is by now.
+    inside(&mut ours.index).copy_from_slice(lent.index);
+    Form::Plain.is(model, trace, ours, &indexed, lent)?;
     Ok((indexed, indexed))
 }
 
@@ -169,16 +170,13 @@ pub fn check_forms(
 pub fn check_short(
     model: &[u8],
     trace: &[u8],
-    state: &[u8],
-    table: &[u16],
-    names: &[u8],
-    index: Option<&[u16]>,
+    lent: &Lent,
+    form: Form,
     entries: usize,
 ) -> Result<(), String> {
-    let mut ours = Buffers::new(state, table, names, index);
-    let before = ours.clone();
-    let mut out = vec![7; entries];
-    same("a short out", ours.ask(model, trace, &mut out), 1)?;
+    let before = Buffers::guarded(lent);
+    let (mut ours, mut out) = (before.clone(), vec![7; entries]);
+    same("a short out", form.ask(model, trace, &mut ours.within(), &mut out), 1)?;
     ours.same(" under a short out", &before)?;
     same("a short out's entries", out, vec![7; entries])
 }
@@ -270,20 +268,20 @@ pub fn close_forms(
 pub fn rules(
     model: &[u8],
     trace: &[u8],
-    state: &mut [u8],
-    table: &mut [u16],
-    names: &mut [u8],
-    index: &mut [u16],
+    lent: &mut Lent,
     list: &mut [u16],
 ) -> Result<Result<usize, u8>, String> {
-    let mut ours = Buffers::new(state, table, names, Some(index));
-    let (before, mut our_list) = (ours.clone(), guarded(list, 0xC3C3));
-    let short = ours.list_rules(model, trace, inside(&mut our_list), &mut []);
-    same("no out for rules", short, 1)?;
+    let (before, before_list) = (Buffers::guarded(lent), guarded(list, 0xC3C3));
+    let (mut ours, mut our_list) = (before.clone(), before_list.clone());
+    let ask = |ours: &mut Buffers, our_list: &mut [u16], out: &mut [u64]| {
+        cantivorex::rules_into(model, trace, &mut ours.within(), inside(our_list), out)
+    };
+    same("no out for rules", ask(&mut ours, &mut our_list, &mut []), 1)?;
     ours.same(" without out for rules", &before)?;
-    same_area("the list without out", &our_list, &guarded(list, 0xC3C3))?;
+    same_area("the list without out", &our_list, &before_list)?;
     let (mut out, mut out_2) = (guarded(&[7; 2], 9), guarded(&[7; 2], 9));
-    let number = ours.list_rules(model, trace, inside(&mut our_list), inside(&mut out));
+    let number = ask(&mut ours, &mut our_list, inside(&mut out));
+    let Lent { state, table, names, index } = lent;
     let answer = second::rules_api(model, trace, state, table, names, index, list);
     if let Ok(count) = answer {
         inside(&mut out_2)[0] = count as u64;
@@ -291,7 +289,7 @@ pub fn rules(
     same("the number for rules", number, answer.err().unwrap_or(0))?;
     same_area("how many rules fire", &out, &out_2)?;
     same_area("the list of rules", &our_list, &guarded(list, 0xC3C3))?;
-    ours.same(" with rules", &Buffers::new(state, table, names, Some(index)))?;
+    ours.same(" with rules", &Buffers::guarded(lent))?;
     Ok(answer)
 }
 

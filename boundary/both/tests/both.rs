@@ -21,6 +21,7 @@ mod persistent;
 #[path = "../../../second/tests/places.rs"]
 mod places_crossed;
 
+use cantivorex::Lent;
 pub use other::*;
 
 pub fn check(
@@ -30,7 +31,7 @@ pub fn check(
     table: &mut [u16],
     names: &mut [u8],
 ) -> Verdict {
-    let verdict = both::check(model, trace, state, table, names);
+    let verdict = both::check(model, trace, &mut Lent { state, table, names, index: &mut [] });
     verdict.unwrap_or_else(|difference| panic!("{difference}"))
 }
 
@@ -46,7 +47,7 @@ pub fn check_indexed(
     names: &mut [u8],
     index: &mut [u16],
 ) -> Verdict {
-    let verdict = both::check_indexed(model, trace, state, table, names, index);
+    let verdict = both::check_indexed(model, trace, &mut Lent { state, table, names, index });
     verdict.unwrap_or_else(|difference| panic!("{difference}"))
 }
 
@@ -69,7 +70,7 @@ pub fn rules_api(
     index: &mut [u16],
     list: &mut [u16],
 ) -> Result<usize, u8> {
-    let answer = both::rules(model, trace, state, table, names, index, list);
+    let answer = both::rules(model, trace, &mut Lent { state, table, names, index }, list);
     answer.unwrap_or_else(|difference| panic!("{difference}"))
 }
 

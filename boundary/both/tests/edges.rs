@@ -928,6 +928,16 @@ fn shown(index: &[u16]) -> String {
 
 const STAYS: u16 = 0xEEEE;
 
+/// Buffers as large as they have to be, with an index of so many entries that are to stay.
+fn lending<T>(entries: usize, ask: impl FnOnce(&mut cantivorex::Lent) -> T) -> T {
+    ask(&mut cantivorex::Lent {
+        state: &mut [0; STATE_BYTES],
+        table: &mut [0; TABLE_ENTRIES],
+        names: &mut [0; NAMES_BYTES],
+        index: &mut vec![STAYS; entries],
+    })
+}
+
 fn indexed((label, files, start, entries): &Lent) -> String {
     let Files { model, trace } = files;
     let (mut state, mut table) = ([0; STATE_BYTES], [0; TABLE_ENTRIES]);
@@ -937,8 +947,11 @@ fn indexed((label, files, start, entries): &Lent) -> String {
         Ok(Closed { rounds, crossings }) => format!("{rounds} rounds {crossings} crossed"),
         Err(number) => format!("number {number}"),
     };
-    let names = &mut [0; NAMES_BYTES];
-    let v = cantivorex::check_indexed(model, trace, &mut state, &mut table, names, &mut two);
+    let v = lending(two.len(), |lent| {
+        let v = cantivorex::check_indexed(model, trace, lent);
+        two.copy_from_slice(lent.index);
+        v
+    });
     if v.number == 1 {
         assert_eq!((v.step, v.rounds, v.held, v.mark, v.start, v.size), (0, 0, 0, 0, 0, 0));
     }
@@ -1080,10 +1093,8 @@ fn room_for_a_list() -> Vec<Listed> {
 
 fn firing((label, files, places, entries): &Listed) -> String {
     let Files { model, trace } = files;
-    let (state, table) = (&mut [0; STATE_BYTES], &mut [0; TABLE_ENTRIES]);
-    let (names, index) = (&mut [0; NAMES_BYTES], &mut vec![0; *places]);
     let mut list = vec![STAYS; *entries];
-    match cantivorex::rules(model, trace, state, table, names, index, &mut list) {
+    match lending(*places, |lent| cantivorex::rules(model, trace, lent, &mut list)) {
         Ok(count) => format!("{label}: {count} fire {}", shown(&list)),
         Err(number) => format!("{label}: number {number} {}", shown(&list)),
     }

@@ -138,13 +138,13 @@ fn indexed_alone(name: &str, mut model: Model) {
     let model = write_model(&model);
     let (initial, mut list) = (state(&model), Worklist::default());
     list.build(clauses(&model));
-    let (mut lent, mut table) = (Lent::new(), [0; 4_096]);
+    let (mut lent, mut table) = (Own::new(), [0; 4_096]);
     let [none, few, many] = [0, 2, 256].map(|steps| write_trace(0, &vec![0; steps]));
-    let mut other = Lent::new();
+    let mut other = Own::new();
     let mut without = || lent.library(&model, &none).rounds as u64;
     let mut swept = || other.library(&model, &few).rounds as u64;
     let mut plain = || (0..256).map(|_| list.close(black_box(&initial), &mut table).0 as u64).sum();
-    let [mut third, mut fourth] = [0; 2].map(|_| Lent::new());
+    let [mut third, mut fourth] = [0; 2].map(|_| Own::new());
     let mut rest = || third.indexed(&model, &none).rounds as u64;
     let mut all = || fourth.indexed(&model, &many).rounds as u64;
     assert_eq!(all(), plain() + rest(), "{name}");
@@ -154,7 +154,7 @@ fn indexed_alone(name: &str, mut model: Model) {
 }
 
 fn indexed_check(name: &str, pairs: &[(Vec<u8>, Vec<u8>)]) {
-    let [mut one, mut two] = [0; 2].map(|_| Lent::new());
+    let [mut one, mut two] = [0; 2].map(|_| Own::new());
     let ours = || pairs.iter().map(|(m, tr)| one.indexed(m, tr).rounds).sum::<usize>() as u64;
     let theirs = || pairs.iter().map(|(m, tr)| two.library(m, tr).rounds).sum::<usize>() as u64;
     race(name, ours, theirs);
@@ -168,7 +168,7 @@ fn indexed_checks(desk: &Model) {
     }
     let night: Vec<_> = (0..200).map(|i| gen::sound(11, i)).map(|p| (p.model, p.trace)).collect();
     indexed_check("a night of 200 typical pairs", &night);
-    let [mut one, mut two] = [0; 2].map(|_| Lent::new());
+    let [mut one, mut two] = [0; 2].map(|_| Own::new());
     let ours = || night.iter().map(|(m, tr)| one.by_size(m, tr).rounds).sum::<usize>() as u64;
     let theirs = || night.iter().map(|(m, tr)| two.library(m, tr).rounds).sum::<usize>() as u64;
     race("the same night by the models' sizes, as the command asks", ours, theirs);
@@ -189,7 +189,7 @@ fn longest_pair() {
     model.attacks[0].pos = (0..7).collect();
     let model = write_model(&model);
     let [all, few, none] = [1_024, 2, 0].map(|steps| write_trace(0, &vec![0; steps]));
-    let mut lent = Lent::new();
+    let mut lent = Own::new();
     let seconds = |ns: f64| ns / 1e9;
     let by_index = (0..3).map(|_| time(1, || lent.indexed(&model, &all).rounds as u64));
     let by_index = seconds(by_index.fold(f64::MAX, f64::min));
@@ -226,8 +226,8 @@ fn indexed_growth() {
 
 /// Listing by itself: what the library takes for the same pair without listing is taken off. There is no step.
 fn listing(name: &str, model: &[u8]) {
-    let (mut one, mut two, trace) = (Lent::new(), Lent::new(), write_trace(0, &[]));
-    let (mut other, mut list) = (Lent::new(), [0; 2_048]);
+    let (mut one, mut two, trace) = (Own::new(), Own::new(), write_trace(0, &[]));
+    let (mut other, mut list) = (Own::new(), [0; 2_048]);
     other.indexed(model, &trace);
     let mut with = || one.rules(black_box(model), &trace);
     let mut without = || two.indexed(black_box(model), &trace).rounds as u64;
@@ -241,7 +241,7 @@ fn listing(name: &str, model: &[u8]) {
 /// The same with judging, index and closing on both sides.
 fn whole_listing(name: &str, model: &[u8]) {
     let (state, mut worklist) = (state(model), Worklist::default());
-    let (mut table, mut list, mut one) = ([0; 4_096], [0; 2_048], Lent::new());
+    let (mut table, mut list, mut one) = ([0; 4_096], [0; 2_048], Own::new());
     let (mut names, trace) = ([0; 128], write_trace(0, &[]));
     // The names in use at the start, which only some rows have.
     one.indexed(model, &trace);
@@ -316,7 +316,7 @@ fn time(times: u32, mut run: impl FnMut() -> u64) -> f64 {
 }
 
 /// The buffers of a check.
-struct Lent {
+struct Own {
     state: [u8; 512],
     table: [u16; 4_096],
     names: [u8; 128],
@@ -324,28 +324,31 @@ struct Lent {
     list: Vec<u16>,
 }
 
-impl Lent {
-    fn new() -> Lent {
+impl Own {
+    fn new() -> Own {
         let index = vec![0; cantivorex::INDEX_ENTRIES];
         let list = vec![0; cantivorex::LIST_ENTRIES];
-        Lent { state: [0; 512], table: [0; 4_096], names: [0; 128], index, list }
+        Own { state: [0; 512], table: [0; 4_096], names: [0; 128], index, list }
+    }
+
+    /// All but the list, which is lent apart.
+    fn parts(&mut self) -> (cantivorex::Lent<'_>, &mut [u16]) {
+        let Own { state, table, names, index, list } = self;
+        (cantivorex::Lent { state, table, names, index }, list)
     }
 
     fn indexed(&mut self, model: &[u8], trace: &[u8]) -> cantivorex::Verdict {
-        let Lent { state, table, names, index, .. } = self;
-        cantivorex::check_indexed(model, trace, state, table, names, index)
+        cantivorex::check_indexed(model, trace, &mut self.parts().0)
     }
 
     /// How many rules fire.
     fn rules(&mut self, model: &[u8], trace: &[u8]) -> u64 {
-        let Lent { state, table, names, index, list } = self;
-        let count = cantivorex::rules(model, trace, state, table, names, index, list);
-        count.expect("listed") as u64
+        let (mut lent, list) = self.parts();
+        cantivorex::rules(model, trace, &mut lent, list).expect("listed") as u64
     }
 
     fn by_size(&mut self, model: &[u8], trace: &[u8]) -> cantivorex::Verdict {
-        let (state, table) = (&mut self.state, &mut self.table);
-        cantivorex::check_by_size(model, trace, state, table, &mut self.names, &mut self.index)
+        cantivorex::check_by_size(model, trace, &mut self.parts().0)
     }
 
     fn library(&mut self, model: &[u8], trace: &[u8]) -> cantivorex::Verdict {
@@ -380,7 +383,7 @@ fn closing_alone(name: &str, mut model: Model) {
     };
     let once = time(1, || closings(1));
     let steps = (2e7 / once).clamp(4.0, 1_024.0) as usize;
-    let mut lent = Lent::new();
+    let mut lent = Own::new();
     let (with, without) = (write_trace(0, &vec![0; steps]), write_trace(0, &[]));
     let mut check = |trace: &[u8]| lent.library(&model, trace).rounds as u64;
     assert_eq!(check(&with), closings(steps + 1), "{name}");
@@ -411,7 +414,7 @@ fn closing(name: &str, model: &[u8]) {
 fn judging(name: &str, model: &[u8]) {
     // The trace is refused by NAME, so that nothing is run.
     let trace = write_trace(u16::MAX, &[]);
-    let mut lent = Lent::new();
+    let mut lent = Own::new();
     race(
         &format!("{name}, by parser"),
         || lent.library(black_box(model), &trace).number as u64,
@@ -425,7 +428,7 @@ fn judging(name: &str, model: &[u8]) {
 }
 
 fn check(name: &str, pairs: &[(Vec<u8>, Vec<u8>)]) {
-    let [mut one, mut two] = [0; 2].map(|_| Lent::new());
+    let [mut one, mut two] = [0; 2].map(|_| Own::new());
     let ours = || pairs.iter().map(|(m, tr)| one.library(m, tr).rounds).sum::<usize>() as u64;
     let theirs = || pairs.iter().map(|(m, tr)| two.second(m, tr).rounds).sum::<usize>() as u64;
     race(name, ours, theirs);
@@ -446,7 +449,7 @@ fn checks(desk: &Model) {
     // The same closings without lists: judged once, and closed for each state.
     let trace = write_trace(0, &[0; 1_024]);
     let state = state(&full);
-    let (mut lent, mut t2) = (Lent::new(), [0; 4_096]);
+    let (mut lent, mut t2) = (Own::new(), [0; 4_096]);
     race(
         "the same, 1,024 steps, against 1,025 of bench_close",
         || lent.library(&full, &trace).rounds as u64,
@@ -475,7 +478,7 @@ fn versions(desk: &Model) {
             let written = |p| write_model(&as_version(version, model(p)));
             let models: Vec<_> = night.iter().map(written).collect();
             let (pairs, mut lent) =
-                (models.into_iter().zip(&night).collect::<Vec<_>>(), Lent::new());
+                (models.into_iter().zip(&night).collect::<Vec<_>>(), Own::new());
             move || {
                 let rounds =
                     black_box(&pairs).iter().map(|(m, p)| lent.library(m, &p.trace).rounds);
@@ -493,7 +496,7 @@ fn versions(desk: &Model) {
     check("the same against the second program", &[(write_model(&all), trace)]);
     let model = write_model(&remembering());
     let [formula, state] = [1, 0].map(|goal| {
-        let (trace, mut lent) = (write_trace(goal, &[0; 1_024]), Lent::new());
+        let (trace, mut lent) = (write_trace(goal, &[0; 1_024]), Own::new());
         let model = &model;
         move || lent.library(black_box(model), &trace).rounds as u64
     });
@@ -525,7 +528,7 @@ fn as_version(version: u8, model: Model) -> Model {
 /// The library with two models and one trace.
 fn against(name: &str, one: &Model, other: &Model, trace: &[u8]) {
     let [ours, theirs] = [one, other].map(|model| {
-        let (model, mut lent) = (write_model(model), Lent::new());
+        let (model, mut lent) = (write_model(model), Own::new());
         move || lent.library(black_box(&model), trace).rounds as u64
     });
     race(name, ours, theirs);

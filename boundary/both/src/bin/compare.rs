@@ -2,7 +2,8 @@
 //! is 'COUNT passed, 0 failed'. The pairs are compared in a child process, so that the pair is known
 //! even if a call crashes.
 
-use both::watch;
+use both::{watch, Buffers, Form};
+use cantivorex::Lent;
 use second::gen::{self, Pair, Rng};
 use second::{Indexed, Tally, Verdict};
 use std::path::Path;
@@ -79,23 +80,20 @@ fn failed(pair: &Pair, index: u64) -> i32 {
 fn compare(pair: &Pair, seed: u64, index: u64) -> Result<(Verdict, Indexed), String> {
     let Pair { model, trace, state_len, .. } = pair;
     let mut rng = Rng::new(seed ^ 0xC0FFEE, index);
-    let (mut state, mut table, mut names) = pair.buffers(seed, index);
-    let mut places = pair.index(seed, index);
+    let mut buffers = Buffers::of(pair, seed, index);
     let few = rng.below(cantivorex::VALUES);
-    both::check_short(model, trace, &state, &table, &names, None, few)?;
-    both::check_short(model, trace, &state, &table, &names, Some(&places), few)?;
+    for form in [Form::Plain, Form::Indexed] {
+        both::check_short(model, trace, &buffers.lent(), form, few)?;
+    }
     let mut start = gen::start_for(seed, index, model);
     // Where the pair is to have too short a state, so is this one.
     start.truncate(if *state_len < 512 { *state_len } else { start.len() });
-    let (closed, plain) =
-        both::close_forms(model, &start, &mut table.clone(), &mut places.clone())?;
-    let firing = {
-        let (mut state, mut table, mut names) = (state.clone(), table.clone(), names.clone());
-        let (places, list) = (&mut places.clone(), &mut pair.list(seed, index));
-        both::rules(model, trace, &mut state, &mut table, &mut names, places, list)?
-    };
-    let (with, verdict) =
-        both::check_forms(model, trace, &mut state, &mut table, &mut names, &mut places)?;
+    let (mut table, mut places) = (buffers.table.clone(), buffers.index.clone());
+    let (closed, plain) = both::close_forms(model, &start, &mut table, &mut places)?;
+    let list = &mut pair.list(seed, index);
+    let firing = both::rules(model, trace, &mut buffers.clone().lent(), list)?;
+    let (with, verdict) = both::check_forms(model, trace, &mut buffers.lent())?;
+    let Buffers { table, names, .. } = buffers;
     let indexed = Indexed { number: with.number, closed, plain, firing, table, names };
     for _ in 0..3 {
         let mark = [0, 0, 1, 1, 2, rng.draw() as u8][rng.below(6)];
@@ -121,28 +119,19 @@ fn answers(pair: &Pair, seed: u64, index: u64) {
     let ours = cantivorex::check(model, trace, &mut state, &mut table, &mut names);
     let theirs = second::check(model, trace, &mut state, &mut table, &mut names);
     println!("library {ours:?}\nsecond  {theirs:?}");
-    let mut places = pair.index(seed, index);
-    let ours =
-        cantivorex::check_indexed(model, trace, &mut state, &mut table, &mut names, &mut places);
-    println!("library {ours:?} with an index of {}", places.len());
-    println!("library {:?}", listed(pair, seed, index, cantivorex::rules));
-    println!("second  {:?}", listed(pair, seed, index, second::rules_api));
+    let fresh = || Buffers::of(pair, seed, index);
+    let ours = cantivorex::check_indexed(model, trace, &mut fresh().lent());
+    println!("library {ours:?} with an index of {}", pair.index_len);
+    let (mut list, mut second_list) = (pair.list(seed, index), pair.list(seed, index));
+    let count = cantivorex::rules(model, trace, &mut fresh().lent(), &mut list);
+    println!("library {:?}", count.map(|count| &list[..count]));
+    let (mut buffers, list) = (fresh(), &mut second_list);
+    let Lent { state, table, names, index: places } = buffers.lent();
+    let count = second::rules_api(model, trace, state, table, names, places, list);
+    println!("second  {:?}", count.map(|count| &list[..count]));
     println!("library {:?}", cantivorex::count(model));
     println!("second  {:?}", second::count_api(model));
 }
-
-/// How many rules fire, and as many entries of the list.
-fn listed(pair: &Pair, seed: u64, index: u64, rules: Rules) -> Result<Vec<u16>, u8> {
-    let (mut state, mut table, mut names) = pair.buffers(seed, index);
-    let (mut places, mut list) = (pair.index(seed, index), pair.list(seed, index));
-    let (model, trace) = (&pair.model, &pair.trace);
-    let count = rules(model, trace, &mut state, &mut table, &mut names, &mut places, &mut list)?;
-    Ok(list.into_iter().take(count).collect())
-}
-
-/// A list of rules, of either program.
-type Rules =
-    fn(&[u8], &[u8], &mut [u8], &mut [u16], &mut [u8], &mut [u16], &mut [u16]) -> Result<usize, u8>;
 
 fn hex_file(name: &str, bytes: &[u8]) {
     println!("{name}, {} bytes:", bytes.len());

@@ -115,6 +115,65 @@ int main(void)
     expect("all null for rules",
         cantivorex_safe_rules(NULL, 9, NULL, 9, NULL, 512, NULL, 4096, NULL, 128, NULL, 3, NULL, 3, NULL, 1),
         CANTIVOREX_ROOM);
+    /* Both models have some facts, the second one body place. */
+    expect("no out for a fact",
+        cantivorex_safe_holds(
+            model, sizeof model, trace, 7, 0, state, 512, table, 4096, names, 128, index, 3, NULL, 2),
+        CANTIVOREX_ROOM);
+    expect("an out of one entry for a fact",
+        cantivorex_safe_holds(
+            model, sizeof model, trace, 7, 0, state, 512, table, 4096, names, 128, index, 3, out, 1),
+        CANTIVOREX_ROOM);
+    expect("a short out before any fault",
+        cantivorex_safe_holds(NULL, 5, trace, 7, 9, state, 512, table, 4096, names, 128, index, 3, out, 1),
+        CANTIVOREX_ROOM);
+    expect("no index for a fact",
+        cantivorex_safe_holds(
+            placed, sizeof placed, trace, 7, 0, state, 512, table, 4096, names, 128, NULL, 3, out, 10),
+        CANTIVOREX_ROOM);
+    expect("no index, before the trace's section and the fact",
+        cantivorex_safe_holds(
+            placed, sizeof placed, file, 5, 2, state, 512, table, 4096, names, 128, NULL, 3, out, 10),
+        CANTIVOREX_ROOM);
+    expect("no index and half a model",
+        cantivorex_safe_holds(
+            placed, sizeof placed - 1, trace, 7, 2, state, 512, table, 4096, names, 128, NULL, 3, out, 10),
+        CANTIVOREX_SHAPE);
+    expect("the trace's section before the fact",
+        cantivorex_safe_holds(
+            placed, sizeof placed, file, 5, 2, state, 512, table, 4096, names, 128, index, 3, out, 10),
+        CANTIVOREX_SHAPE);
+    expect("fact 2 of 2",
+        cantivorex_safe_holds(
+            placed, sizeof placed, trace, 7, 2, state, 512, table, 4096, names, 128, index, 3, out, 10),
+        CANTIVOREX_FACT);
+    expect("the greatest number there is as a fact",
+        cantivorex_safe_holds(
+            placed, sizeof placed, trace, 7, SIZE_MAX, state, 512, table, 4096, names, 128, index, 3, out, 10),
+        CANTIVOREX_FACT);
+    expect("a fact over 65,535 that ends as fact 0",
+        cantivorex_safe_holds(
+            placed, sizeof placed, trace, 7, 65536, state, 512, table, 4096, names, 128, index, 3, out, 10),
+        CANTIVOREX_FACT);
+    expect("no model's fact",
+        cantivorex_safe_holds(NULL, 5, trace, 7, 0, state, 512, table, 4096, names, 128, index, 3, out, 10),
+        CANTIVOREX_VERSION);
+    expect("no trace for a fact",
+        cantivorex_safe_holds(
+            placed, sizeof placed, NULL, 7, 2, state, 512, table, 4096, names, 128, NULL, 3, out, 10),
+        CANTIVOREX_VERSION);
+    expect("no state for a fact",
+        cantivorex_safe_holds(NULL, 5, trace, 7, 0, NULL, 512, table, 4096, names, 128, index, 3, out, 10),
+        CANTIVOREX_ROOM);
+    expect("no table for a fact",
+        cantivorex_safe_holds(NULL, 5, trace, 7, 0, state, 512, NULL, 4096, names, 128, index, 3, out, 10),
+        CANTIVOREX_ROOM);
+    expect("127 bytes for names and a fact",
+        cantivorex_safe_holds(NULL, 5, trace, 7, 0, state, 512, table, 4096, names, 127, index, 3, out, 10),
+        CANTIVOREX_ROOM);
+    expect("all null for a fact",
+        cantivorex_safe_holds(NULL, 9, NULL, 9, 0, NULL, 512, NULL, 4096, NULL, 128, NULL, 3, NULL, 2),
+        CANTIVOREX_ROOM);
     expect("no out to count", cantivorex_safe_count(model, sizeof model, NULL, 4), CANTIVOREX_ROOM);
     expect("a short out to count", cantivorex_safe_count(model, sizeof model, out, 3), CANTIVOREX_ROOM);
     expect("all null to count", cantivorex_safe_count(NULL, 5, NULL, 4), CANTIVOREX_ROOM);
@@ -206,5 +265,19 @@ int main(void)
     expect("the second", list[1], 1);
     expect("no entry after them", all(list + 2, sizeof *list, JUNK), 1);
     expect("nothing after how many", all(out + 1, 9 * sizeof *out, JUNK), 1);
+    /* A fact: nothing is stored. One that a clause gives from nothing, one that no clause gives. */
+    expect("fact 2",
+        cantivorex_safe_holds(
+            model, sizeof model, trace, 7, 2, state, 512, table, 4096, names, 128, NULL, 3, out, 2),
+        0);
+    expect("its round", out[CANTIVOREX_HOLDS_ROUND], 1);
+    expect("the rounds run", out[CANTIVOREX_HOLDS_ROUNDS], 1);
+    expect("fact 4",
+        cantivorex_safe_holds(
+            model, sizeof model, trace, 7, 4, state, 512, table, 4096, names, 128, NULL, 3, out, 10),
+        0);
+    expect("no round", out[CANTIVOREX_HOLDS_ROUND], CANTIVOREX_NONE);
+    expect("all rounds run", out[CANTIVOREX_HOLDS_ROUNDS], 1);
+    expect("nothing after both", all(out + CANTIVOREX_HOLDS_ENTRIES, 8 * sizeof *out, JUNK), 1);
     return summary();
 }

@@ -1,6 +1,6 @@
 /* One state buffer, one for names and one for an index, used again and again and longer than they have to be: a step
    that does not fire at the end of a trace leaves the state before it, and what lies beyond the bytes of a state stays.
-   With an index and without one, and where the rules are listed that fire there. */
+   With an index and without one, where the rules are listed that fire there, and where a fact is asked for. */
 #include "../include/cantivorex.h"
 #include "expect.h"
 #include <string.h>
@@ -76,6 +76,61 @@ static void fires(const uint8_t *file, size_t len, const uint8_t *trace, size_t 
     expect("the same rounds", memcmp(rounds, table, sizeof table), 0);
 }
 
+/* A fact asked for after rule 0 and another that does not fire, in the same buffers: the number of the check, and what
+   the check left. A fact that there is not is told before any step, and changes nothing. */
+static void stopped(const uint8_t *file, size_t len, const uint8_t *trace, size_t trace_len, uint8_t number)
+{
+    uint64_t out[3] = {JUNK, JUNK, JUNK};
+    uint8_t before[sizeof state], used[sizeof names];
+    uint16_t rounds[5000];
+    memcpy(before, state, sizeof state);
+    memcpy(used, names, sizeof names);
+    memcpy(rounds, table, sizeof table);
+    memset(state, JUNK, 512);
+    memset(names, JUNK, 128);
+    memset(table, JUNK, 4096 * sizeof *table);
+    memset(places, JUNK, sizeof places);
+    expect("fact 16 of 16",
+        cantivorex_safe_holds(file, len, trace, trace_len, 16, state, sizeof state, table, 5000, names, sizeof names,
+            places, 9, out, 3),
+        CANTIVOREX_FACT);
+    expect("nothing is changed", all(state, sizeof state, JUNK) && all(names, sizeof names, JUNK), 1);
+    expect("no entry is", all(table, sizeof table, JUNK) && all(places, sizeof places, JUNK), 1);
+    expect("a step that does not fire",
+        cantivorex_safe_holds(file, len, trace, trace_len, 9, state, sizeof state, table, 5000, names, sizeof names,
+            places, 9, out, 3),
+        number);
+    expect("no answer", out[0] == JUNK && out[1] == JUNK && out[2] == JUNK, 1);
+    expect("the state of the check", memcmp(before, state, sizeof state), 0);
+    expect("the names of the check", memcmp(used, names, sizeof names), 0);
+    expect("the rounds of the check", memcmp(rounds, table, sizeof table), 0);
+}
+
+/* A fact asked for after rule 0: its round and the rounds run. 3 and 9 are stored then, and 2 is derived from 9. */
+static void asked(uint64_t fact, uint64_t round, uint64_t rounds)
+{
+    static const uint8_t trace[] = {1, 0, 0, 0, 4, 0, 0, 0, 0};
+    uint64_t out[3] = {JUNK, JUNK, JUNK};
+    uint8_t after[CANTIVOREX_STATE_BYTES] = {1 << 3, 1 << 1};
+    memset(places, JUNK, sizeof places);
+    expect("a fact",
+        cantivorex_safe_holds(model, sizeof model, trace, sizeof trace, fact, state, sizeof state, table, 5000, names,
+            sizeof names, places, 9, out, 3),
+        0);
+    expect("its round", out[CANTIVOREX_HOLDS_ROUND], round);
+    expect("the rounds run", out[CANTIVOREX_HOLDS_ROUNDS], rounds);
+    expect("nothing else", out[2], JUNK);
+    expect("the state after the step", memcmp(state, after, sizeof after), 0);
+    expect("the bytes beyond it stay", all(state + 512, sizeof state - 512, JUNK), 1);
+    expect("no name", all(names, 128, 0) && all(names + 128, sizeof names - 128, JUNK), 1);
+    expect("stored facts", table[3] == 0 && table[9] == 0, 1);
+    expect("the derived one, if a round is run", table[2], rounds ? 1 : CANTIVOREX_NONE);
+    expect("the one that rule 0 took", table[0], CANTIVOREX_NONE);
+    expect("the entries beyond 4,096 stay", all(table + 4096, sizeof table - 2 * 4096, JUNK), 1);
+    expect("the clause of the one body place", places[0], 0);
+    expect("the entries beyond it stay", all(places + 1, sizeof places - 2, JUNK), 1);
+}
+
 /* Rule 0 and then another: blocked at step 1, by a fact of a kind. */
 static void blocked_by(uint8_t rule, uint64_t fact, uint64_t kind, uint64_t round, int indexed)
 {
@@ -104,6 +159,7 @@ static void blocked_by(uint8_t rule, uint64_t fact, uint64_t kind, uint64_t roun
     expect("the entries beyond it stay", all(places + 1, sizeof places - 2, JUNK), 1);
     /* Rule 0 took its own fact, and both others lack one or have one in the way. */
     fires(model, sizeof model, trace, sizeof trace, 3, -1);
+    stopped(model, sizeof model, trace, sizeof trace, CANTIVOREX_BLOCKED);
 }
 
 /* Rule 0 and then another, which makes a name that is used. What an earlier check used says nothing. */
@@ -131,6 +187,7 @@ static void used_by(uint8_t rule, uint64_t name, int indexed)
     expect("no body place", all(places, sizeof places, JUNK), 1);
     /* Rule 2 alone makes a name that is unused. */
     fires(minting, sizeof minting, trace, sizeof trace, 3, 2);
+    stopped(minting, sizeof minting, trace, sizeof trace, CANTIVOREX_USED);
 }
 
 int main(void)
@@ -143,6 +200,10 @@ int main(void)
         used_by(0, 3, !indexed);
         used_by(1, 5, indexed);
         blocked_by(2, 2, CANTIVOREX_KIND_NEGATIVE, 1, indexed);
+        asked(9, 0, 0);
+        asked(2, 1, 1);
+        asked(3, 0, 0);
+        asked(0, CANTIVOREX_NONE, 1);
     }
     return summary();
 }

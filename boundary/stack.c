@@ -223,7 +223,7 @@ static const struct pair pairs[] = {
 
 static uint8_t answer;
 static size_t room = sizeof state, figures = CANTIVOREX_HAS_ENTRIES, entries = CANTIVOREX_INDEX_ENTRIES,
-              listed = CANTIVOREX_LIST_ENTRIES;
+              listed = CANTIVOREX_LIST_ENTRIES, fact = NEVER;
 
 static void nothing(void)
 {
@@ -259,6 +259,13 @@ static void rules_of_it(void)
         CANTIVOREX_TABLE_ENTRIES, names, sizeof names, places, entries, firing, listed, out, CANTIVOREX_OUT_ENTRIES);
 }
 
+/* A fact that is absent, so that all rounds are run; the greatest that there is if F is 4,096. */
+static void fact_of_it(void)
+{
+    answer = cantivorex_holds(model.bytes, model.len, trace.bytes, trace.len, fact, state, room, table,
+        CANTIVOREX_TABLE_ENTRIES, names, sizeof names, places, entries, out, CANTIVOREX_OUT_ENTRIES);
+}
+
 static void count_it(void)
 {
     answer = cantivorex_count(model.bytes, model.len, out, figures);
@@ -290,7 +297,8 @@ static size_t depth(void (*run)(void))
 }
 
 /* The deepest of each function so far. */
-static size_t check_most, close_most, count_most, part_most, check_indexed_most, close_indexed_most, rules_most;
+static size_t check_most, close_most, count_most, part_most, check_indexed_most, close_indexed_most, rules_most,
+    holds_most;
 
 static void keep_most(size_t *most, size_t taken)
 {
@@ -298,7 +306,8 @@ static void keep_most(size_t *most, size_t taken)
         *most = taken;
 }
 
-/* One row: all seven functions on the files as they are. A run that ends is no refusal where rules are listed. */
+/* One row: all eight functions on the files as they are. A run that ends is no refusal where rules are listed, nor is a
+   goal that is not met where a fact is asked for. */
 static void measure(const char *name, uint64_t check, uint64_t close)
 {
     size_t empty = depth(nothing);
@@ -319,8 +328,10 @@ static void measure(const char *name, uint64_t check, uint64_t close)
     int is_run = check == CANTIVOREX_ATTACK || check == CANTIVOREX_BLOCKED || check == CANTIVOREX_NOATTACK ||
         check == CANTIVOREX_USED;
     expect("the list's answer", answer, is_run ? 0 : check);
-    printf("%-34s %2llu %7zu %7zu %7zu %7zu %7zu %7zu %7zu\n", name, (unsigned long long)check, checking, closing,
-        counting, placing, checking_indexed, closing_indexed, listing);
+    size_t asking = depth(fact_of_it) - empty;
+    expect("the fact's answer", answer, check == CANTIVOREX_NOATTACK ? 0 : check);
+    printf("%-34s %2llu %7zu %7zu %7zu %7zu %7zu %7zu %7zu %7zu\n", name, (unsigned long long)check, checking, closing,
+        counting, placing, checking_indexed, closing_indexed, listing, asking);
     keep_most(&check_most, checking);
     keep_most(&close_most, closing);
     keep_most(&count_most, counting);
@@ -328,6 +339,7 @@ static void measure(const char *name, uint64_t check, uint64_t close)
     keep_most(&check_indexed_most, checking_indexed);
     keep_most(&close_indexed_most, closing_indexed);
     keep_most(&rules_most, listing);
+    keep_most(&holds_most, asking);
 }
 
 static void limit(const char *name, size_t most, size_t allowed)
@@ -338,8 +350,8 @@ static void limit(const char *name, size_t most, size_t allowed)
 
 int main(void)
 {
-    printf("%-34s %2s %7s %7s %7s %7s %15s %7s\n", "bytes of stack", "", "check", "close", "count", "part",
-        "both by an index", "rules");
+    printf("%-34s %2s %7s %7s %7s %7s %15s %7s %7s\n", "bytes of stack", "", "check", "close", "count", "part",
+        "both by an index", "rules", "holds");
     for (size_t i = 0; i < sizeof pairs / sizeof *pairs; i++) {
         write_model(&pairs[i]);
         write_trace(&pairs[i]);
@@ -359,7 +371,19 @@ int main(void)
     expect("closing by too short an index", answer, CANTIVOREX_ROOM);
     keep_most(&rules_most, depth(rules_of_it) - empty);
     expect("rules with too short an index", answer, CANTIVOREX_ROOM);
+    keep_most(&holds_most, depth(fact_of_it) - empty);
+    expect("a fact with too short an index", answer, CANTIVOREX_ROOM);
     entries = CANTIVOREX_INDEX_ENTRIES;
+    /* A stored fact, a derived one, and one that there is not. */
+    static const size_t facts[] = {0, HEADS, FACTS};
+    for (size_t i = 0; i < sizeof facts / sizeof *facts; i++) {
+        fact = facts[i];
+        keep_most(&holds_most, depth(fact_of_it) - empty);
+        expect("a fact", answer, fact == FACTS ? CANTIVOREX_FACT : 0);
+        if (fact != FACTS)
+            expect("its round", out[CANTIVOREX_HOLDS_ROUND], i);
+    }
+    fact = NEVER;
     listed = 3;
     keep_most(&rules_most, depth(rules_of_it) - empty);
     expect("a list shorter than four rules", answer, CANTIVOREX_ROOM);
@@ -374,5 +398,6 @@ int main(void)
     limit("cantivorex_check_indexed", check_indexed_most, INDEXED_LIMIT);
     limit("cantivorex_close_indexed", close_indexed_most, INDEXED_LIMIT);
     limit("cantivorex_rules", rules_most, INDEXED_LIMIT);
+    limit("cantivorex_holds", holds_most, INDEXED_LIMIT);
     return summary();
 }

@@ -6,14 +6,15 @@
  * of the same call.
  *
  * The functions at the bottom, `cantivorex_safe_..`, are the ones to call: they take a null pointer as an area of
- * length 0. The seven above them are what the library has, each area as a pointer that is not null and a length.
+ * length 0. The eight above them are what the library has, each area as a pointer that is not null and a length.
  *
  * Check and closing have two forms. The one without an index is for a small board: it reads all clauses again in each
  * round. The one that is lent an index is for all others: it looks at each body fact of each clause once for a state,
  * so that a long chain of clauses takes no longer than the same clauses side by side. Both give the same answers.
  *
  * Stack: at most 1,082 bytes for cantivorex_check, 477 for cantivorex_close, 442 for cantivorex_count and 44 for
- * cantivorex_part; 32,768 for the two forms with an index and for cantivorex_rules. boundary/stack.c measures it.
+ * cantivorex_part; 32,768 for the two forms with an index, cantivorex_rules and cantivorex_holds. boundary/stack.c
+ * measures it.
  */
 #ifndef CANTIVOREX_H
 #define CANTIVOREX_H
@@ -53,6 +54,7 @@ enum {
     CANTIVOREX_LIST_ENTRIES = 2048,   /* enough for every model: a list of rules needs an entry for each of its rules */
     CANTIVOREX_OUT_ENTRIES = 10,      /* of a check; closing needs one, and so does a list of rules */
     CANTIVOREX_CLOSED_ENTRIES = 2,    /* of closing with an index */
+    CANTIVOREX_HOLDS_ENTRIES = 2,     /* of a fact that is asked for */
     CANTIVOREX_HAS_ENTRIES = 4        /* of a count */
 };
 
@@ -74,6 +76,12 @@ enum {
 enum {
     CANTIVOREX_CLOSED_ROUNDS = 0,
     CANTIVOREX_CLOSED_CROSSINGS = 1 /* the body places whose fact is in the closure */
+};
+
+/* Where the answers for a fact that is asked for stand in `out`. */
+enum {
+    CANTIVOREX_HOLDS_ROUND = 0, /* the round in which it arose, 0 if it is stored, or CANTIVOREX_NONE if it is absent */
+    CANTIVOREX_HOLDS_ROUNDS = 1 /* the rounds run on the last state: that round, or all of them if it is absent */
 };
 
 /* Where a model's figures stand in `out`: the same four for all versions. */
@@ -137,6 +145,19 @@ uint8_t cantivorex_rules(const uint8_t *model, size_t model_len, const uint8_t *
     uint8_t *state, size_t state_len, uint16_t *table, size_t table_len, uint8_t *names, size_t names_len,
     uint16_t *index, size_t index_len, uint16_t *list, size_t list_len, uint64_t *out, size_t out_len);
 
+/* Whether one fact holds in the last state after all steps. Answers 0 and writes its round number, or CANTIVOREX_NONE
+ * for an absent one, and the rounds run on the last state to the front of `out`, as closing that state in full would
+ * have it. Closing stops at the end of the round in which the fact arises: the first 4,096 entries of `table` show the
+ * facts up to that round, and CANTIVOREX_NONE there says only that the rounds run did not reach the fact; for a stored
+ * fact no round is run, for an absent one all are. State, names and index are left as by cantivorex_check_indexed, and
+ * what lies beyond stays; the goal says nothing once there is one. Otherwise it answers 1 to 9, 12 or 17 and changes
+ * nothing, 6 being also for a `fact` of F or more, after all that is said of both files and before any step; or 10 or
+ * 13 for a step that does not fire, with state, table, names and index as cantivorex_check_indexed leaves them and
+ * `out` as it was. With an `out` of fewer than 2 entries the answer is 1 and nothing is changed. */
+uint8_t cantivorex_holds(const uint8_t *model, size_t model_len, const uint8_t *trace, size_t trace_len, size_t fact,
+    uint8_t *state, size_t state_len, uint16_t *table, size_t table_len, uint8_t *names, size_t names_len,
+    uint16_t *index, size_t index_len, uint64_t *out, size_t out_len);
+
 /* What a model has: answers 0 and writes how many facts, clauses, rules and goals to the front of `out`. Otherwise it
  * answers 2 to 7, 12 or 17 for the model and changes nothing. With an `out` of fewer than 4 entries the answer is 1. */
 uint8_t cantivorex_count(const uint8_t *model, size_t model_len, uint64_t *out, size_t out_len);
@@ -147,7 +168,7 @@ uint8_t cantivorex_count(const uint8_t *model, size_t model_len, uint64_t *out, 
 size_t cantivorex_part(const uint8_t *model, size_t model_len, const uint8_t *trace, size_t trace_len, uint8_t mark,
     size_t start, size_t size, uint8_t *out, size_t out_len);
 
-/* The same seven, with a null pointer as an area of length 0: a null file is an empty one (VERSION), a null buffer one
+/* The same eight, with a null pointer as an area of length 0: a null file is an empty one (VERSION), a null buffer one
  * without room (ROOM). */
 static inline uint8_t cantivorex_safe_check(const uint8_t *model, size_t model_len, const uint8_t *trace,
     size_t trace_len, uint8_t *state, size_t state_len, uint16_t *table, size_t table_len, uint8_t *names,
@@ -204,6 +225,18 @@ static inline uint8_t cantivorex_safe_rules(const uint8_t *model, size_t model_l
         names ? names : (uint8_t *)&nothing, names ? names_len : 0, index ? index : (uint16_t *)&nothing,
         index ? index_len : 0, list ? list : (uint16_t *)&nothing, list ? list_len : 0, out ? out : &nothing,
         out ? out_len : 0);
+}
+
+static inline uint8_t cantivorex_safe_holds(const uint8_t *model, size_t model_len, const uint8_t *trace,
+    size_t trace_len, size_t fact, uint8_t *state, size_t state_len, uint16_t *table, size_t table_len, uint8_t *names,
+    size_t names_len, uint16_t *index, size_t index_len, uint64_t *out, size_t out_len)
+{
+    uint64_t nothing = 0;
+    return cantivorex_holds(model ? model : (const uint8_t *)&nothing, model ? model_len : 0,
+        trace ? trace : (const uint8_t *)&nothing, trace ? trace_len : 0, fact, state ? state : (uint8_t *)&nothing,
+        state ? state_len : 0, table ? table : (uint16_t *)&nothing, table ? table_len : 0,
+        names ? names : (uint8_t *)&nothing, names ? names_len : 0, index ? index : (uint16_t *)&nothing,
+        index ? index_len : 0, out ? out : &nothing, out ? out_len : 0);
 }
 
 static inline uint8_t cantivorex_safe_count(const uint8_t *model, size_t model_len, uint64_t *out, size_t out_len)

@@ -114,6 +114,23 @@ extern "C" {
         out: *mut u64,
         out_len: usize,
     ) -> u8;
+    fn cantivorex_holds(
+        model: *const u8,
+        model_len: usize,
+        trace: *const u8,
+        trace_len: usize,
+        fact: usize,
+        state: *mut u8,
+        state_len: usize,
+        table: *mut u16,
+        table_len: usize,
+        names: *mut u8,
+        names_len: usize,
+        index: *mut u16,
+        index_len: usize,
+        out: *mut u64,
+        out_len: usize,
+    ) -> u8;
     fn cantivorex_count(model: *const u8, model_len: usize, out: *mut u64, out_len: usize) -> u8;
     fn cantivorex_part(
         model: *const u8,
@@ -128,13 +145,14 @@ extern "C" {
     ) -> usize;
 }
 
-/// One call of the library: first the slices that are read, then those that are written.
+/// One call of the library: first the slices that are read, then a number if it takes one, then those that are written.
 macro_rules! call {
-    ($function:ident, $($read:expr),* => $($written:expr),*) => {
+    ($function:ident, $($read:expr),* $(; $number:expr)? => $($written:expr),*) => {
         // The slices are live and, where they are written, lent to this call alone.
         unsafe {
             $function(
                 $($read.as_ptr(), $read.len(),)*
+                $($number,)?
                 $($written.as_mut_ptr(), $written.len(),)*
             )
         }
@@ -319,6 +337,44 @@ pub fn rules_into(
 ) -> u8 {
     let Lent { state, table, names, index } = lent;
     call!(cantivorex_rules, model, trace => state, table, names, index, list, out)
+}
+
+/// Whether a fact holds in the last state after all steps.
+#[derive(Clone, Copy, Debug, PartialEq, Eq)]
+pub enum Holds {
+    /// Since this round: 0 if it is stored.
+    Held {
+        round: usize,
+    },
+    Absent,
+}
+
+/// How many values the answer for a fact has.
+pub const HOLDS: usize = 2;
+
+/// Whether a fact holds, and the rounds that were run on the last state to say so: no more than it takes. Or the
+/// refusal's number, which for BLOCKED and USED leaves the buffers as the check does and for all others as they were;
+/// FACT is also for a fact that the model lacks.
+pub fn holds(
+    model: &[u8],
+    trace: &[u8],
+    fact: usize,
+    lent: &mut Lent,
+) -> Result<(Holds, usize), u8> {
+    let mut out = [0; HOLDS];
+    match holds_into(model, trace, fact, lent, &mut out) {
+        0 => {
+            let [round, rounds] = out.map(|n| n as usize);
+            Ok((if round == NONE { Holds::Absent } else { Holds::Held { round } }, rounds))
+        }
+        number => Err(number),
+    }
+}
+
+/// The same as the library has it: 0 and both values at the front of `out`, or the refusal's number.
+pub fn holds_into(model: &[u8], trace: &[u8], fact: usize, lent: &mut Lent, out: &mut [u64]) -> u8 {
+    let Lent { state, table, names, index } = lent;
+    call!(cantivorex_holds, model, trace; fact => state, table, names, index, out)
 }
 
 /// What a model has: how many facts, clauses, rules and goals, its attack states and formulas together.

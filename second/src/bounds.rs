@@ -4,11 +4,14 @@
 
 use crate::board::{rule, Board, Files, Place, PLACES};
 use crate::codes::{tree_of_facts, OR};
-use crate::gen::{fields, raise, write_model, Rng};
+use crate::gen::{fields, raise, write_model, Ask, Rng};
 use crate::read::{Attack, Rule, NAMES_IN_USE, PERSISTENT};
-use crate::{crossed, fresh, lasting, listed, past};
+use crate::{crossed, fresh, lasting, listed, past, sought};
 
 type Kind = fn(Board) -> Files;
+
+/// One with the fact that is asked for.
+type Asking = fn(Board) -> (Files, Ask);
 
 /// Every turn has a pair of each of these kinds.
 const KINDS: &[Kind] = &[
@@ -81,20 +84,31 @@ const KINDS: &[Kind] = &[
     listed::after,
 ];
 
-/// And a pair of one of these, which cost some hundredths of a second each.
-const DEAR: &[Kind] = &[longest_chain, longest_run, longer_chain, large_sum];
+/// And of these.
+const ASKING: &[Asking] = &[sought::top, sought::same_round, sought::steps, sought::beyond];
 
-/// The pair of a number, kind after kind.
-pub(crate) fn files(rng: &mut Rng, number: u64) -> Files {
-    let kinds = KINDS.len() + 1;
+/// And a pair of one of these, which cost some hundredths of a second each.
+const DEAR: &[Asking] = &[
+    |b| (longest_chain(b), Ask::Last),
+    |b| (longest_run(b), Ask::Last),
+    |b| (longer_chain(b), Ask::Last),
+    |b| (large_sum(b), Ask::Absent),
+];
+
+/// The pair of a number, kind after kind, with the fact that is asked for if the kind says so.
+pub(crate) fn files(rng: &mut Rng, number: u64) -> (Files, Option<Ask>) {
+    let kinds = KINDS.len() + ASKING.len() + 1;
     let (turn, at) = (number as usize / kinds, number as usize % kinds);
     let some = 2_500 + rng.below(1_596);
-    let usual = rng.of(&[4_096, 4_096, 4_096, 4_095, some]);
-    let (kind, turn, facts) = match KINDS.get(at) {
-        Some(kind) => (kind, turn, usual),
-        None => (&DEAR[turn % DEAR.len()], turn / DEAR.len(), 4_096),
+    let usual = rng.of(&[4_096, 4_096, 4_096, 4_095, some]) as u16;
+    if let Some(kind) = KINDS.get(at) {
+        return (kind(Board::new(rng, turn, usual)), None);
+    }
+    let (files, ask) = match ASKING.get(at - KINDS.len()) {
+        Some(kind) => kind(Board::new(rng, turn, usual)),
+        None => DEAR[turn % DEAR.len()](Board::new(rng, turn / DEAR.len(), 4_096)),
     };
-    kind(Board::new(rng, turn, facts as u16))
+    (files, Some(ask))
 }
 
 // At the bounds.

@@ -31,7 +31,7 @@ pub fn close(model: &Model, state: &BTreeSet<u16>) -> (usize, Vec<u16>) {
 }
 
 /// Bodies are looked up in the old round only, never in the one being made.
-fn next_round(clauses: &[Clause], round: &[bool]) -> Vec<bool> {
+pub(crate) fn next_round(clauses: &[Clause], round: &[bool]) -> Vec<bool> {
     let mut next = round.to_vec();
     for clause in clauses {
         if clause.body.iter().all(|f| round[*f as usize]) {

@@ -5,7 +5,7 @@ use crate::read::{bare_sections, initial_in, places_in, rules_in, sections};
 use crate::read::{Attack, Clause, Model, Rule};
 use crate::read::{FORMULAS, NAMES_IN_USE, PERSISTENT};
 use crate::{bounds, codes};
-use crate::{INDEX_ENTRIES, LIST_ENTRIES, NAMES_BYTES, STATE_BYTES, TABLE_ENTRIES};
+use crate::{INDEX_ENTRIES, LIST_ENTRIES, NAMES_BYTES, NONE, STATE_BYTES, TABLE_ENTRIES};
 use std::collections::BTreeSet;
 
 /// Splitmix64.
@@ -46,6 +46,25 @@ pub struct Pair {
     pub names_len: usize,
     pub index_len: usize,
     pub list_len: usize,
+    pub ask: Ask,
+}
+
+/// Which fact is asked for: by its round in the last state reached, by F, or by its number.
+#[derive(Clone, Copy, Debug, PartialEq, Eq)]
+pub enum Ask {
+    Stored,
+    First,
+    /// Of a round after the first and before the last.
+    Between,
+    Last,
+    Absent,
+    /// Any that there is, F - 1, and F with so much added.
+    Any,
+    Top,
+    Beyond(usize),
+    /// Any that there is, with so much added that a part of the number is the fact.
+    Over(usize),
+    Number(usize),
 }
 
 impl Pair {
@@ -69,22 +88,51 @@ impl Pair {
         let junk = Rng::new(seed ^ 0x2157, index).draw();
         (0..self.list_len).map(|i| (junk >> (i % 43)) as u16).collect()
     }
+
+    /// The fact that is asked for. The round numbers are those that a check leaves, or none if it refuses;
+    /// where there is no fact of such a round, it is any.
+    pub fn fact(&self, seed: u64, index: u64, numbers: &[u16]) -> usize {
+        let mut rng = Rng::new(seed ^ 0xFAC7, index);
+        let facts = facts_in(&self.model);
+        let last = numbers.iter().copied().filter(|n| *n != NONE).max().unwrap_or(0);
+        let is_such = |n: u16| match self.ask {
+            Ask::Stored => n == 0,
+            Ask::First => n == 1,
+            Ask::Between => n > 1 && n < last,
+            Ask::Last => n == last && n > 0,
+            Ask::Absent => n == NONE,
+            _ => true,
+        };
+        let below = 0..facts.min(numbers.len());
+        let such: Vec<usize> = below.filter(|f| is_such(numbers[*f])).collect();
+        let any = rng.below(facts);
+        let some = such.get(rng.below(such.len())).copied().unwrap_or(any);
+        match self.ask {
+            Ask::Top => facts.saturating_sub(1),
+            Ask::Beyond(more) => facts + more,
+            Ask::Over(more) => some + more,
+            Ask::Number(fact) => fact,
+            _ => some,
+        }
+    }
 }
 
 /// One pair in so many of the mixed stream is at a bound, the last of them.
-pub const AT_BOUNDS: u64 = 18;
+pub const AT_BOUNDS: u64 = 17;
 
 /// The mixed stream: a bit under half sound, the rest damaged or at the bounds, now and then too
 /// little room.
 pub fn pair(seed: u64, index: u64) -> Pair {
     let mut rng = Rng::new(seed, index);
-    let mut pair = if index % AT_BOUNDS == AT_BOUNDS - 1 {
-        roomy(bounds::files(&mut rng, index / AT_BOUNDS))
+    let (mut pair, ask) = if index % AT_BOUNDS == AT_BOUNDS - 1 {
+        let (files, ask) = bounds::files(&mut rng, index / AT_BOUNDS);
+        (roomy(files), ask)
     } else {
-        some_pair(&mut rng)
+        (some_pair(&mut rng), None)
     };
     pair.index_len = some_index(&mut rng, places_in(&pair.model));
     pair.list_len = some_list(&mut rng, rules_in(&pair.model));
+    pair.ask = ask.unwrap_or_else(|| some_ask(&mut rng));
     pair
 }
 
@@ -132,6 +180,23 @@ fn some_list(rng: &mut Rng, rules: usize) -> usize {
     }
 }
 
+/// A fact to be asked for: of each kind of round, and every fourth time none that there is.
+fn some_ask(rng: &mut Rng) -> Ask {
+    match rng.below(40) {
+        0..=2 => Ask::Stored,
+        3..=6 => Ask::First,
+        7..=12 => Ask::Between,
+        13..=22 => Ask::Last,
+        23..=27 => Ask::Absent,
+        28 => Ask::Any,
+        29 | 30 => Ask::Top,
+        31..=33 => Ask::Beyond(0),
+        34 | 35 => Ask::Beyond(rng.of(&[1, 1, 255, 4_096])),
+        36..=38 => Ask::Over(rng.of(&[4_096, 65_536, 65_536, 1 << 32, 1 << 63])),
+        _ => Ask::Number(rng.of(&[4_095, 4_096, 65_535, 65_536, usize::MAX])),
+    }
+}
+
 /// Only pairs that ATTACK, BLOCKED, NOATTACK or USED answers.
 pub fn sound(seed: u64, index: u64) -> Pair {
     roomy(sound_files(&mut Rng::new(seed, index)))
@@ -151,6 +216,7 @@ fn roomy((model, trace): (Vec<u8>, Vec<u8>)) -> Pair {
         names_len: NAMES_BYTES,
         index_len: INDEX_ENTRIES,
         list_len: LIST_ENTRIES,
+        ask: Ask::Any,
     }
 }
 
@@ -167,7 +233,7 @@ pub fn start_for(seed: u64, index: u64, model: &[u8]) -> Vec<u8> {
 }
 
 /// F as a file has it, at most 4,096.
-fn facts_in(model: &[u8]) -> usize {
+pub(crate) fn facts_in(model: &[u8]) -> usize {
     model.get(5..7).map_or(6, |two| u16::from_be_bytes([two[0], two[1]]).min(4_096) as usize)
 }
 

@@ -11,20 +11,23 @@ mod firing;
 mod formula;
 mod fresh;
 pub mod gen;
+mod holds;
 mod index;
 mod lasting;
 mod listed;
 mod past;
 pub mod read;
+mod sought;
 mod tally;
 
 pub use close::{bench_close, bench_close_flat, close, close_api, close_indexed_api};
 pub use close::{clause_place, flat, Closed, Flat, Judged};
 pub use count::{count_api, Counts};
 pub use firing::rules_api;
+pub use holds::{holds_api, HOLDS};
 pub use index::places;
 pub use read::{parse, parse_model, Attack, Clause, Model, Parsed, Part, Rule, Trace};
-pub use tally::{Indexed, Tally};
+pub use tally::{Indexed, Sought, Tally};
 
 use formula::{truth, Formula};
 use index::{has_room, write_index};

@@ -4,7 +4,8 @@
 use crate::close::{close_api, close_indexed_api, Closed};
 use crate::firing::rules_api;
 use crate::formula::{self, truth, Wrong};
-use crate::gen::{start_for, Pair};
+use crate::gen::{facts_in, start_for, Pair};
+use crate::holds::{holds_api, HOLDS};
 use crate::read::{
     bare_sections, names_at_fault, numbers, parse, places_in, rules_in, section_part, sections,
 };
@@ -18,14 +19,34 @@ use crate::{NOATTACK, NONE, ORDER, POSITIVE, ROOM, SHAPE, TRACE, USED, VERSION};
 use std::collections::BTreeSet;
 
 /// What comes of a pair where an index is lent: the check's number, what closing by itself answers with
-/// the index and without it, and how many rules fire. The table and the names are a check's.
+/// the index and without it, how many rules fire, and what is said of a fact. The table and the names are a check's.
 pub struct Indexed {
     pub number: u8,
     pub closed: Result<Closed, u8>,
     pub plain: Result<usize, u8>,
     pub firing: Result<usize, u8>,
+    pub sought: Sought,
     pub table: Vec<u16>,
     pub names: Vec<u8>,
+}
+
+/// The fact that is asked for, with the number answered and both values.
+pub struct Sought {
+    pub fact: usize,
+    pub number: u8,
+    pub out: [u64; HOLDS],
+}
+
+impl Sought {
+    /// Which fact is asked for, by what a check answers and leaves.
+    pub fn fact(pair: &Pair, seed: u64, index: u64, verdict: &Verdict, table: &[u16]) -> usize {
+        pair.fact(seed, index, if has_run(verdict) { table } else { &[] })
+    }
+}
+
+/// Whether a check runs the pair and so leaves round numbers.
+fn has_run(verdict: &Verdict) -> bool {
+    matches!(verdict.number, ATTACK | BLOCKED | NOATTACK | USED)
 }
 
 impl Indexed {
@@ -43,12 +64,20 @@ impl Indexed {
         let (mut list, mut lent) = (pair.list(seed, index), places.clone());
         let firing =
             rules_api(model, trace, &mut state, &mut table, &mut names, &mut lent, &mut list);
-        let number =
-            check_indexed(model, trace, &mut state, &mut table, &mut names, &mut places).number;
+        let mut lent = places.clone();
+        let mut verdict =
+            check_indexed(model, trace, &mut state, &mut table, &mut names, &mut places);
+        let number = verdict.number;
         if number == ROOM {
-            check(model, trace, &mut state, &mut table, &mut names);
+            verdict = check(model, trace, &mut state, &mut table, &mut names);
         }
-        Indexed { number, closed, plain, firing, table, names }
+        let fact = Sought::fact(pair, seed, index, &verdict, &table);
+        let (mut one, mut two, mut three) = pair.buffers(seed, index);
+        let mut out = [7; HOLDS];
+        let (b, o) = ((&mut one, &mut two, &mut three, &mut lent), &mut out);
+        let answer = holds_api(model, trace, fact, b.0, b.1, b.2, b.3, o);
+        let sought = Sought { fact, number: answer, out };
+        Indexed { number, closed, plain, firing, sought, table, names }
     }
 }
 
@@ -60,6 +89,7 @@ struct Seen<'a> {
     indexed: &'a Indexed,
     places: usize,
     rules: usize,
+    facts: usize,
     without: Verdict,
     named: Named,
     asked: Option<Asked>,
@@ -101,7 +131,7 @@ struct Asked {
 /// Whether a pair counts.
 type Counts = fn(&Seen) -> bool;
 
-const ROWS: [(&str, Counts); 70] = [
+const ROWS: [(&str, Counts); 90] = [
     ("positive", |s| s.verdict.kind == POSITIVE),
     ("negative, stored", |s| s.verdict.kind == NEGATIVE && s.verdict.round == 0),
     ("negative, round 1", |s| s.verdict.kind == NEGATIVE && s.verdict.round == 1),
@@ -174,6 +204,26 @@ const ROWS: [(&str, Counts); 70] = [
     ("rules that fire or not, USED", |s| s.indexed.firing.is_ok() && s.verdict.number == USED),
     ("rules that fire, NOATTACK", |s| s.firing() > 0 && s.verdict.number == NOATTACK),
     ("a used name keeps a rule", |s| s.firing_is(|fired| fired.by_name)),
+    ("a fact that is stored", |s| s.held() == Some(0)),
+    (".. and rounds left out", |s| s.held() == Some(0) && s.last_round() > 0),
+    ("a fact of round 1", |s| s.held() == Some(1)),
+    (".. and rounds left out", |s| s.held() == Some(1) && s.last_round() > 1),
+    ("a fact of a later round", |s| s.held().is_some_and(|n| n > 1 && n < s.last_round())),
+    ("a fact of the last round", |s| s.held().is_some_and(|n| n > 1 && n == s.last_round())),
+    ("others arise in its round", |s| s.held().is_some_and(|n| n > 0 && s.arise_in(n) > 1)),
+    ("a fact that is absent", |s| s.is_absent() && s.last_round() == 0),
+    (".. after some rounds", |s| s.is_absent() && s.last_round() > 0),
+    ("fact F-1, held or absent", |s| s.is_told() && s.indexed.sought.fact + 1 == s.facts),
+    ("a fact, NOATTACK", |s| s.is_told() && s.verdict.number == NOATTACK),
+    ("FACT of F", |s| s.has_no_fact() && s.indexed.sought.fact == s.facts),
+    (".. of 65,536 or more", |s| s.has_no_fact() && s.indexed.sought.fact > 65_535),
+    (".. before a blocked step", |s| s.has_no_fact() && s.verdict.number == BLOCKED),
+    (".. before a used name", |s| s.has_no_fact() && s.verdict.number == USED),
+    (".. after the trace's fault", |s| s.lacks_fact() && s.blames_trace(&[SHAPE, COUNT, NAME])),
+    (".. after a short index", |s| s.lacks_fact() && s.is_short()),
+    ("a fact, BLOCKED", |s| s.indexed.sought.number == BLOCKED),
+    ("a fact, USED", |s| s.indexed.sought.number == USED),
+    ("a fact, ROOM of an index", |s| s.indexed.sought.number == ROOM && s.is_short()),
 ];
 
 impl Seen<'_> {
@@ -261,6 +311,38 @@ impl Seen<'_> {
 
     fn would_fit(&self) -> bool {
         self.fired.as_ref().is_some_and(|fired| fired.count <= self.pair.list_len)
+    }
+
+    /// Answered, and not refused.
+    fn is_told(&self) -> bool {
+        self.indexed.sought.number == 0
+    }
+
+    /// The round of a fact that holds.
+    fn held(&self) -> Option<u64> {
+        Some(self.indexed.sought.out[0]).filter(|n| self.is_told() && *n != NONE as u64)
+    }
+
+    fn is_absent(&self) -> bool {
+        self.is_told() && self.held().is_none()
+    }
+
+    /// Of the last state, closed in full.
+    fn last_round(&self) -> u64 {
+        self.indexed.table.iter().filter(|n| **n != NONE).max().map_or(0, |n| *n as u64)
+    }
+
+    fn arise_in(&self, round: u64) -> usize {
+        self.indexed.table.iter().filter(|n| **n as u64 == round).count()
+    }
+
+    fn lacks_fact(&self) -> bool {
+        self.indexed.sought.fact >= self.facts
+    }
+
+    /// Refused for that and for nothing else.
+    fn has_no_fact(&self) -> bool {
+        self.indexed.sought.number == FACT && has_run(self.verdict)
     }
 
     fn crossings(&self) -> Option<usize> {
@@ -358,8 +440,10 @@ impl Tally {
         self.numbers[verdict.number as usize] += 1;
         let (without, named) = (*verdict, Named::default());
         let (places, rules) = (places_in(&pair.model), rules_in(&pair.model));
+        let facts = facts_in(&pair.model);
         let (asked, fired) = (None, None);
-        let mut seen = Seen { pair, verdict, indexed, places, rules, without, named, asked, fired };
+        let mut seen =
+            Seen { pair, verdict, indexed, places, rules, facts, without, named, asked, fired };
         if let (Ok(parsed), true) = (parse(&pair.model, &pair.trace), verdict.number != ROOM) {
             seen.named = self::named(&parsed, verdict);
             seen.asked = hangs_on(&parsed, verdict);

@@ -293,6 +293,26 @@ pub fn rules(
     Ok(answer)
 }
 
+/// What is said of a fact by both, or what differs: the number, with what each leaves in an `out` of any length.
+pub fn holds(
+    model: &[u8],
+    trace: &[u8],
+    fact: usize,
+    lent: &mut Lent,
+    out: &mut [u64],
+) -> Result<u8, String> {
+    let (mut ours, mut our_out) = (Buffers::guarded(lent), guarded(out, 9));
+    let number =
+        cantivorex::holds_into(model, trace, fact, &mut ours.within(), inside(&mut our_out));
+    let Lent { state, table, names, index } = lent;
+    let answer = second::holds_api(model, trace, fact, state, table, names, index, out);
+    let when = format!(" with fact {fact}");
+    same(&format!("the number{when}"), number, answer)?;
+    same_area(&format!("the answer{when}"), &our_out, &guarded(out, 9))?;
+    ours.same(&when, &Buffers::guarded(lent))?;
+    Ok(answer)
+}
+
 /// What a model has, counted by both, or what differs; first into a few entries that are too few.
 pub fn count(model: &[u8], few: usize) -> Result<Result<Counts, u8>, String> {
     let mut short = vec![7; few];

@@ -1,7 +1,7 @@
 //! The second program's own tests, run through both programs: cases A to L, the edges, every fault and every two faults
-//! together, versions 2 to 4, the index, and the rules that fire.
-//! Those tests say `second`; here that is this file, whose `check`, `close_api`, `rules_api` and `count_api`, and the
-//! first two with an index, make each call of both and compare.
+//! together, versions 2 to 4, the index, the rules that fire, and one fact.
+//! Those tests say `second`; here that is this file, whose `check`, `close_api`, `rules_api`, `holds_api` and
+//! `count_api`, and the first two with an index, make each call of both and compare.
 
 extern crate second as other;
 extern crate self as second;
@@ -14,6 +14,8 @@ mod faults;
 mod firing;
 #[path = "../../../second/tests/formulas.rs"]
 mod formulas;
+#[path = "../../../second/tests/holds.rs"]
+mod holds;
 #[path = "../../../second/tests/names.rs"]
 mod names;
 #[path = "../../../second/tests/persistent.rs"]
@@ -71,6 +73,20 @@ pub fn rules_api(
     list: &mut [u16],
 ) -> Result<usize, u8> {
     let answer = both::rules(model, trace, &mut Lent { state, table, names, index }, list);
+    answer.unwrap_or_else(|difference| panic!("{difference}"))
+}
+
+pub fn holds_api(
+    model: &[u8],
+    trace: &[u8],
+    fact: usize,
+    state: &mut [u8],
+    table: &mut [u16],
+    names: &mut [u8],
+    index: &mut [u16],
+    out: &mut [u64],
+) -> u8 {
+    let answer = both::holds(model, trace, fact, &mut Lent { state, table, names, index }, out);
     answer.unwrap_or_else(|difference| panic!("{difference}"))
 }
 

@@ -5,7 +5,7 @@
 use both::{watch, Buffers, Form};
 use cantivorex::Lent;
 use second::gen::{self, Pair, Rng};
-use second::{Indexed, Tally, Verdict};
+use second::{Indexed, Sought, Tally, Verdict, HOLDS};
 use std::path::Path;
 use std::process::exit;
 
@@ -76,7 +76,7 @@ fn failed(pair: &Pair, index: u64) -> i32 {
 }
 
 /// One pair: a check with and without room for the verdict, closing by itself, both with an index and
-/// without one, the rules that fire, three places, and what the model has.
+/// without one, the rules that fire, a fact, three places, and what the model has.
 fn compare(pair: &Pair, seed: u64, index: u64) -> Result<(Verdict, Indexed), String> {
     let Pair { model, trace, state_len, .. } = pair;
     let mut rng = Rng::new(seed ^ 0xC0FFEE, index);
@@ -92,9 +92,12 @@ fn compare(pair: &Pair, seed: u64, index: u64) -> Result<(Verdict, Indexed), Str
     let (closed, plain) = both::close_forms(model, &start, &mut table, &mut places)?;
     let list = &mut pair.list(seed, index);
     let firing = both::rules(model, trace, &mut buffers.clone().lent(), list)?;
+    let mut others = buffers.clone();
     let (with, verdict) = both::check_forms(model, trace, &mut buffers.lent())?;
     let Buffers { table, names, .. } = buffers;
-    let indexed = Indexed { number: with.number, closed, plain, firing, table, names };
+    let fact = Sought::fact(pair, seed, index, &verdict, &table);
+    let sought = sought(pair, fact, &mut others)?;
+    let indexed = Indexed { number: with.number, closed, plain, firing, sought, table, names };
     for _ in 0..3 {
         let mark = [0, 0, 1, 1, 2, rng.draw() as u8][rng.below(6)];
         let file = if mark == 1 { trace } else { model };
@@ -106,13 +109,24 @@ fn compare(pair: &Pair, seed: u64, index: u64) -> Result<(Verdict, Indexed), Str
     Ok((verdict, indexed))
 }
 
+/// What is said of a fact, without room for the answer and then with an entry more than it needs.
+fn sought(pair: &Pair, fact: usize, buffers: &mut Buffers) -> Result<Sought, String> {
+    let Pair { model, trace, .. } = pair;
+    for few in 0..HOLDS {
+        both::holds(model, trace, fact, &mut buffers.lent(), &mut vec![7; few])?;
+    }
+    let mut out = [7; HOLDS + 1];
+    let number = both::holds(model, trace, fact, &mut buffers.lent(), &mut out)?;
+    Ok(Sought { fact, number, out: [out[0], out[1]] })
+}
+
 /// A place in a file, at its end, or far beyond.
 fn somewhere(rng: &mut Rng, len: usize) -> usize {
     let near = len + rng.below(3);
     [rng.below(len + 1), rng.below(len + 1), near, usize::MAX - rng.below(2)][rng.below(4)]
 }
 
-/// Both verdicts, rules and counts, for a look at a pair that differs.
+/// Both verdicts, rules, facts and counts, for a look at a pair that differs.
 fn answers(pair: &Pair, seed: u64, index: u64) {
     let Pair { model, trace, .. } = pair;
     let (mut state, mut table, mut names) = pair.buffers(seed, index);
@@ -129,6 +143,15 @@ fn answers(pair: &Pair, seed: u64, index: u64) {
     let Lent { state, table, names, index: places } = buffers.lent();
     let count = second::rules_api(model, trace, state, table, names, places, list);
     println!("second  {:?}", count.map(|count| &list[..count]));
+    let mut buffers = fresh();
+    let verdict =
+        second::check(model, trace, &mut buffers.state, &mut buffers.table, &mut buffers.names);
+    let fact = Sought::fact(pair, seed, index, &verdict, &buffers.table);
+    println!("library {:?} of {fact}", cantivorex::holds(model, trace, fact, &mut fresh().lent()));
+    let (mut buffers, mut out) = (fresh(), [7; HOLDS]);
+    let Lent { state, table, names, index: places } = buffers.lent();
+    let number = second::holds_api(model, trace, fact, state, table, names, places, &mut out);
+    println!("second  {number} {out:?}");
     println!("library {:?}", cantivorex::count(model));
     println!("second  {:?}", second::count_api(model));
 }

@@ -1,9 +1,9 @@
 //! The edges of document 01: a pair on each side of every bound and one for each fault, through the proved library; the
 //! same for versions 2 to 4, what a step does to persistent facts and to names, what formulas say; what models have;
-//! what stands in an index; which rules fire. What must come out was worked out by hand: EDGES.md has the reasoning,
-//! edges.txt, effects.txt, figures.txt, indexes.txt and firing.txt the lines.
+//! what stands in an index; which rules fire; whether a fact holds. What must come out was worked out by hand: EDGES.md
+//! has the reasoning, edges.txt, effects.txt, figures.txt, indexes.txt, firing.txt and holds.txt the lines.
 
-use cantivorex::{Closed, Counts, Verdict, NAMES_BYTES, STATE_BYTES, TABLE_ENTRIES};
+use cantivorex::{Closed, Counts, Holds, Verdict, NAMES_BYTES, STATE_BYTES, TABLE_ENTRIES};
 use second::gen::{write_model, write_trace};
 use second::{Attack, Clause, Model, Rule};
 
@@ -1100,6 +1100,149 @@ fn firing((label, files, places, entries): &Listed) -> String {
     }
 }
 
+/// A pair, the fact that is asked for, and how many entries of an index are lent.
+type Sought = (&'static str, Files, usize, usize);
+
+fn one_fact() -> Vec<Sought> {
+    let head = |l: &mut Lists| {
+        l.model.clauses = vec![Clause { head: 0, body: vec![1] }, Clause { head: 1, body: vec![] }];
+    };
+    let nothing = |l: &mut Lists| l.model.clauses = vec![Clause { head: 1, body: vec![] }];
+    let again = |step| rules_and_steps(vec![rule(&[0], &[0])], vec![0; step]);
+    let kept = |l: &mut Lists| (l.model.persistent, l.steps) = (Some(vec![0]), vec![0]);
+    let used = || {
+        named(|l| {
+            (l.model.initial, l.model.names) = (vec![0], Some(vec![5]));
+            l.model.rules[0].names = vec![5];
+        })
+    };
+    vec![
+        ("a stored fact", at_first(|_| ()), 0, 1),
+        ("an absent fact", at_first(|_| ()), 39, 1),
+        ("a fact that the step took", at_first(|l| l.steps = vec![0]), 0, 1),
+        ("a fact that the step added again", again(1), 0, 1),
+        ("the same 1024 times", again(1_024), 0, 1),
+        ("a fact that is persistent", at_first(kept), 0, 1),
+        ("a stored fact that is a head", at_first(head), 0, 1),
+        ("a fact from nothing", at_first(nothing), 1, 0),
+        ("a goal that isn't met", at_first(|l| l.model.attacks[0].pos = vec![39]), 0, 1),
+        ("a blocked step", plain(), 0, 1),
+        ("a blocked step and fact F-1", plain(), 39, 1),
+        ("a blocked step and fact F", plain(), 40, 1),
+        ("a used name", used(), 0, 1),
+        ("a used name and fact F", used(), 40, 1),
+    ]
+}
+
+/// The first pair with facts 1 and 4 in round 1, 2 and 5 in round 2, 3 in round 3, changed.
+fn three_rounds(change: impl FnOnce(&mut Lists)) -> Files {
+    let clause = |(head, from): (u16, u16)| Clause { head, body: vec![from] };
+    at_first(|l| {
+        l.model.clauses = [(3, 2), (2, 1), (1, 0), (5, 1), (4, 0)].map(clause).to_vec();
+        change(l);
+    })
+}
+
+fn a_fact_of_each_round() -> Vec<Sought> {
+    let with = |rule: Rule| three_rounds(|l| (l.model.rules, l.steps) = (vec![rule], vec![0]));
+    let plain = || three_rounds(|_| ());
+    vec![
+        ("a stored fact before three rounds", plain(), 0, 5),
+        ("a fact of round 1", plain(), 1, 5),
+        ("the other fact of round 1", plain(), 4, 5),
+        ("a fact of round 2", plain(), 2, 5),
+        ("the other fact of round 2", plain(), 5, 5),
+        ("the fact of the last round", plain(), 3, 5),
+        ("an absent fact after three rounds", plain(), 6, 5),
+        ("a step that stores 2", with(rule(&[], &[2])), 3, 5),
+        ("a step that asks for the last round", with(rule(&[3], &[6])), 1, 5),
+        ("a step that the last round blocks", with(asking(&[], &[3])), 0, 5),
+    ]
+}
+
+/// Each fact from the one before it, up to a last one.
+fn chain_to(last: u16) -> Files {
+    at_first(|l| {
+        l.model.facts = 4_096;
+        l.model.clauses = (0..last).map(|f| Clause { head: f + 1, body: vec![f] }).collect();
+    })
+}
+
+fn facts_and_rounds_at_their_bounds() -> Vec<Sought> {
+    let of_all =
+        |initial: u16| at_first(|l| (l.model.facts, l.model.initial) = (4_096, vec![initial]));
+    let to_and_fro = |count: u16| {
+        let steps = (0..count).map(|step| step % 2).collect();
+        rules_and_steps(vec![rule(&[0], &[1]), rule(&[1], &[0])], steps)
+    };
+    vec![
+        ("the last of 4096 facts, stored", of_all(4_095), 4_095, 1),
+        ("the last of 4096 facts, absent", of_all(0), 4_095, 1),
+        ("fact 4096 of 4096", of_all(0), 4_096, 1),
+        ("the last of 4095 rounds", chain_to(4_095), 4_095, 4_095),
+        ("the last but one of 4095 rounds", chain_to(4_095), 4_094, 4_095),
+        ("round 3 of 4095 rounds", chain_to(4_095), 3, 4_095),
+        ("an absent fact after 4094 rounds", chain_to(4_094), 4_095, 4_094),
+        ("4095 rounds and an entry less", chain_to(4_095), 4_095, 4_094),
+        ("1024 steps to and fro", to_and_fro(1_024), 0, 1),
+        ("1023 steps to and fro", to_and_fro(1_023), 0, 1),
+        ("fact 65535", at_first(|_| ()), 65_535, 1),
+        ("fact 65536", at_first(|_| ()), 65_536, 1),
+        ("the greatest number as a fact", at_first(|_| ()), usize::MAX, 1),
+    ]
+}
+
+/// Fact F, and what comes before it.
+fn fact_f_and_another() -> Vec<Sought> {
+    let twice = || in_rule(|r| r.pos = vec![1, 1]);
+    let goal = || listed(|l| l.goal = 1);
+    vec![
+        ("fact F and a model's last byte missing", plain().model_of(44), 40, 0),
+        ("fact F and a fact twice in a rule's P", twice(), 40, 0),
+        ("fact F and name 1024 in use", in_use(vec![1_024]), 40, 0),
+        ("fact F and a formula of no code", formula(&[]), 40, 0),
+        ("fact F and a trace of 4097 bytes", plain().trace_of(4_097), 40, 0),
+        ("fact F and a trace of version 2", plain().trace_version(2), 40, 0),
+        ("fact F and no entry", plain(), 40, 0),
+        ("fact F, no entry and a goal that is missing", goal(), 40, 0),
+        ("fact 0, no entry and a trace's last byte missing", plain().trace_of(8), 0, 0),
+        ("fact F and a trace's last byte missing", plain().trace_of(8), 40, 1),
+        ("fact F and 1025 steps", listed(|l| repeat(&mut l.steps, 1_025)), 40, 1),
+        ("fact F and a goal that is missing", goal(), 40, 1),
+        ("fact F and a rule that is missing", listed(|l| l.steps = vec![1]), 40, 1),
+        ("fact F and a rule missing after a blocked one", listed(|l| l.steps.push(1)), 40, 1),
+        ("fact F alone", at_first(|_| ()), 40, 1),
+    ]
+}
+
+/// Facts with their round numbers, of many the first and the last, or `-` for a table that stays.
+fn rounds_shown(table: &[u16]) -> String {
+    if table.iter().all(|entry| *entry == STAYS) {
+        return "[-]".to_string();
+    }
+    let facts = table.iter().enumerate().filter(|(_, round)| **round != 65_535);
+    let all: Vec<String> = facts.map(|(fact, round)| format!("{fact}@{round}")).collect();
+    match &all[..] {
+        [first, .., last] if all.len() > 17 => {
+            format!("[{first} .. {last}, {} of them]", all.len())
+        }
+        _ => format!("[{}]", all.join(" ")),
+    }
+}
+
+fn held((label, files, fact, entries): &Sought) -> String {
+    let Files { model, trace } = files;
+    lending(*entries, |lent| {
+        lent.table.fill(STAYS);
+        let answer = match cantivorex::holds(model, trace, *fact, lent) {
+            Ok((Holds::Held { round }, rounds)) => format!("round {round} of {rounds}"),
+            Ok((Holds::Absent, rounds)) => format!("absent after {rounds}"),
+            Err(number) => format!("number {number}"),
+        };
+        format!("{label}: {answer} {} {}", rounds_shown(lent.table), shown(lent.index))
+    })
+}
+
 fn verdict(files: &Files) -> Verdict {
     let (mut state, mut table) = ([0; STATE_BYTES], [0; TABLE_ENTRIES]);
     cantivorex::check(&files.model, &files.trace, &mut state, &mut table, &mut [0; NAMES_BYTES])
@@ -1210,4 +1353,12 @@ fn every_rule_fires_that_was_worked_out_by_hand() {
     let groups = [rules_that_fire, full_of_rules, rules_that_make_names, room_for_a_list];
     let all: Vec<Listed> = groups.iter().flat_map(|group| group()).collect();
     agree(&all, firing, include_str!("firing.txt"));
+}
+
+#[test]
+fn every_fact_holds_as_was_worked_out_by_hand() {
+    let groups =
+        [one_fact, a_fact_of_each_round, facts_and_rounds_at_their_bounds, fact_f_and_another];
+    let all: Vec<Sought> = groups.iter().flat_map(|group| group()).collect();
+    agree(&all, held, include_str!("holds.txt"));
 }

@@ -395,13 +395,13 @@ test_help() {
     local word
     try --help
     same 'help: exit' 0 "$status"
-    for word in check count night rules show; do
+    for word in check count holds night rules show; do
         has "help names $word" "$word" "$out"
         same "help $word" "$("$command" "$word" --help)" "$("$command" help "$word")"
         has "help $word has an example" "Example" "$("$command" "$word" -h)"
     done
     same 'help fits a terminal' '' \
-        "$(for word in '' check count night rules show; do "$command" $word --help; done | grep -E '.{81}')"
+        "$(for word in '' check count holds night rules show; do "$command" $word --help; done | grep -E '.{81}')"
     try --version
     same 'the version' "cantivorex 0.1.0 library $(sha256sum "$root/target/staticlib/libexports.a" | head -c 16)" "$out"
 }
@@ -461,6 +461,8 @@ test_lost_output() {
     no_room check "$desk" "$root/samples/B.trace"
     no_room count count "$desk" "$root/samples/B.trace"
     no_room show show "$desk"
+    no_room holds holds "$desk" "$root/samples/A.trace" 5
+    no_room 'an absent fact' holds "$desk" "$root/samples/D.trace" 5
     no_room night night "$root/samples" --model "$desk"
     no_room tsv night "$root/samples" --model "$desk" --tsv --only ATTACK
     no_room help --help
@@ -610,6 +612,89 @@ USED: step 2, rule 0, can't fire: name 7 nonce1 is in use" "$out$err"
     bytes '01 00000002 0001 00000000 00000000 00000000 00000006 0004 0000 0000' >"$tmp/m.model"
     try rules "$tmp/m.model" "$tmp/t.trace"
     same 'no rule' 'state 0, the initial one: 0 of 0 rules can fire' "$out$err"
+}
+
+# holds CASE FACT EXIT LINE: one fact after a trace of the desk model.
+holds() {
+    try holds "$desk" "$root/samples/$1.trace" "$2"
+    same "fact $2 after case $1" "$4" "$out$err"
+    same "fact $2 after case $1: exit" "$3" "$status"
+}
+
+# In the desk model 0, 1 and 4 are stored at first, 2 comes in round 1 and 5 in round 2.
+test_holds() {
+    local first='state 0, the initial one' signed='state 1, after step 0, rule 0 sign' hint
+    holds E 0 0 "HELD since round 0: fact 0 clerk(ana) is stored in $first"
+    holds E 2 0 "HELD since round 1: fact 2 edits(ana) is derived in $first"
+    holds E 'edits(ben)' 0 "HELD since round 2: fact 5 edits(ben) is derived in $first"
+    holds E '5 edits(ben)' 0 "HELD since round 2: fact 5 edits(ben) is derived in $first"
+    holds E frozen 3 "ABSENT after 2 rounds: fact 3 frozen is neither stored nor derived in $first"
+    holds A frozen 0 "HELD since round 0: fact 3 frozen is stored in $signed"
+    holds A 005 0 "HELD since round 2: fact 5 edits(ben) is derived in $signed"
+    holds D 5 3 "ABSENT after 0 rounds: fact 5 edits(ben) is neither stored nor derived in $(
+        )state 1, after step 0, rule 1 dismiss"
+    # A step that can't fire, whatever is asked for; but a fact that there isn't is told first.
+    try holds "$desk" "$root/samples/B.trace" 4
+    says 'a fact after a blocked step' 1 "BLOCKED: step 1, rule 0 sign, can't fire: $(
+        )fact 5 edits(ben) is missing; there is no state after all steps"
+    try holds "$desk" "$root/samples/C.trace" 5
+    says 'a fact after another' 1 "fact 3 frozen is in the way, since it is stored; there is no state after all steps"
+    for hint in B C E; do
+        try holds "$desk" "$root/samples/$hint.trace" 6
+        says "fact 6 after case $hint" 2 "FACT: there is no fact '6': the model has facts 0 to 5"
+        try holds "$desk" "$root/samples/$hint.trace" nobody
+        says "a fact without a name after case $hint" 2 "no fact is called 'nobody': give its number; $(
+            )the model has facts 0 to 5"
+    done
+    for hint in 65535 65536 4294967296 18446744073709551615 18446744073709551616 99999999999999999999999; do
+        try holds "$desk" "$root/samples/E.trace" "$hint"
+        says "fact $hint" 2 "FACT: there is no fact '$hint'"
+    done
+    # The files are judged before the fact.
+    try holds "$desk" "$root/samples/G.trace" 6
+    says 'a fact after a refused trace' 1 "NAME: the trace '$root/samples/G.trace', bytes 5 to 6 (00 02), the goal"
+    try holds "$root/samples/A.trace" "$desk" nobody
+    says 'a fact of no model' 1 'are the two files swapped?'
+    try holds "$desk" "$root/samples/A.trace"
+    says 'no fact asked for' 2 'usage: cantivorex holds MODEL TRACE FACT'
+    try holds "$desk" "$tmp/none.trace" 5
+    says 'a fact after no trace' 2 "there is no file '$tmp/none.trace'"
+    try holds "$desk" "$root/samples/A.trace" ''
+    says 'an empty word' 2 "no fact is called ''"
+    out=$("$command" holds "$desk" - frozen <"$root/samples/A.trace")
+    same 'a trace from standard input' "HELD since round 0: fact 3 frozen is stored in $signed" "$out"
+    # A used name; and names that two facts share, or that are numbers.
+    bytes "$two_facts" >"$tmp/f.model"
+    printf 'fact 0 open\nfact 1 open\nname 5 old\n' >"$tmp/f.names"
+    bytes '01 00000004 0000 0001' >"$tmp/t.trace"
+    try holds "$tmp/f.model" "$tmp/t.trace" 0
+    says 'a fact after a used name' 1 "USED: step 0, rule 1, can't fire: name 5 old is in use; there is no state"
+    bytes '01 00000002 0000' >"$tmp/t.trace"
+    try holds "$tmp/f.model" "$tmp/t.trace" open
+    says 'a name of two facts' 2 "facts 0, 1 are all called 'open': give one's number"
+    try holds "$tmp/f.model" "$tmp/t.trace" '1 open'
+    same 'the number before a name' \
+        "ABSENT after 0 rounds: fact 1 open is neither stored nor derived in $first" "$out$err"
+    printf 'fact 0 1\n' >"$tmp/f.names"
+    try holds "$tmp/f.model" "$tmp/t.trace" 1
+    same 'a number is no name' "ABSENT after 0 rounds: fact 1 is neither stored nor derived in $first" "$out$err"
+    rm "$tmp/f.names"
+    # A chain of 4,000 clauses: fact f in round f.
+    bytes "01 00000002 1000 00000002 0000 00005DC0 $(
+        awk 'BEGIN { for (k = 0; k < 4000; k++) printf "0004%04x%04x", k + 1, k }'
+    ) 00000000 00000006 0004 0000 0000" >"$tmp/m.model"
+    try holds "$tmp/m.model" "$tmp/t.trace" 3
+    same 'fact 3 of a chain' "HELD since round 3: fact 3 is derived in $first" "$out$err"
+    try holds "$tmp/m.model" "$tmp/t.trace" 4000
+    same 'the last of a chain' "HELD since round 4000: fact 4000 is derived in $first" "$out$err"
+    try holds "$tmp/m.model" "$tmp/t.trace" 4095
+    same 'the last fact of all' "ABSENT after 4000 rounds: fact 4095 is neither stored nor derived in $first" "$out$err"
+    same 'the last fact of all: exit' 3 "$status"
+    try holds "$tmp/m.model" "$tmp/t.trace" 4096
+    says 'fact 4096' 2 "FACT: there is no fact '4096': the model has facts 0 to 4095"
+    bytes '01 00000002 0000 00000000 00000000 00000000 00000006 0004 0000 0000' >"$tmp/m.model"
+    try holds "$tmp/m.model" "$tmp/t.trace" 0
+    says 'a model without facts' 2 "FACT: there is no fact '0': the model has no facts"
 }
 
 # Document 003's Table 2: what holds at first, and what is gone after the first rule for a.
@@ -1226,6 +1311,7 @@ test_files
 test_lost_output
 test_show_and_count
 test_rules
+test_holds
 test_table2
 test_tasks
 test_mandate

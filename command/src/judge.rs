@@ -1,15 +1,21 @@
 //! The one place where the library is asked: a check in buffers of its own, with what it leaves in them, the rules that
-//! can fire there, and what a model has.
+//! can fire there, whether a fact holds, and what a model has.
 
 use crate::layout;
 pub use library::Counts;
 use library::{
-    Lent, Verdict, INDEX_ENTRIES, LIST_ENTRIES, NAMES_BYTES, NONE, STATE_BYTES, TABLE_ENTRIES,
+    Holds, Lent, Verdict, INDEX_ENTRIES, LIST_ENTRIES, NAMES_BYTES, NONE, STATE_BYTES,
+    TABLE_ENTRIES,
 };
 use std::cell::RefCell;
 
 /// The refusal of a trace that has no fault in its bytes.
 const NAME: u8 = 9;
+
+/// Of a fact that the model lacks, and of a step that can't fire.
+pub const FACT: u8 = 6;
+pub const BLOCKED: u8 = 10;
+pub const USED: u8 = 13;
 
 /// The least model: no fact, no clause, no rule, no attack state.
 const LEAST: [u8; 23] = [1, 0, 0, 0, 2, 0, 0, 0, 0, 0, 0, 0, 0, 0, 0, 0, 0, 0, 0, 0, 0, 0, 0];
@@ -42,6 +48,11 @@ pub fn rules(model: &[u8], trace: &[u8]) -> Result<Vec<usize>, u8> {
     let mut list = vec![0; LIST_ENTRIES];
     let count = lending(|lent| library::rules(model, trace, lent, &mut list))?;
     Ok(list[..count].iter().map(|number| *number as usize).collect())
+}
+
+/// Whether a fact holds in the last state, and the rounds run on it, or the refusal's number.
+pub fn holds(model: &[u8], trace: &[u8], fact: usize) -> Result<(Holds, usize), u8> {
+    lending(|lent| library::holds(model, trace, fact, lent))
 }
 
 /// Buffers for a call whose answer is all that is asked for.

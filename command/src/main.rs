@@ -9,6 +9,7 @@ mod failure;
 mod files;
 mod formulas;
 mod helper;
+mod holds;
 mod identity;
 mod judge;
 mod layout;
@@ -38,8 +39,14 @@ pub struct Command {
 }
 
 /// The first is the one that is meant where none is named.
-const COMMANDS: [&Command; 5] =
-    [&check::COMMAND, &count::COMMAND, &night::COMMAND, &rules::COMMAND, &show::COMMAND];
+const COMMANDS: [&Command; 6] = [
+    &check::COMMAND,
+    &count::COMMAND,
+    &holds::COMMAND,
+    &night::COMMAND,
+    &rules::COMMAND,
+    &show::COMMAND,
+];
 
 const INTRODUCTION: &str = "\
 Checks attack traces. A model says what may happen, a trace claims an attack on

@@ -82,6 +82,21 @@ impl Names {
         }
     }
 
+    /// The facts that a word stands for: the one of a number, whether the model has it or not, or all that are called
+    /// so, with the number before the name or without.
+    pub fn facts_called(&self, word: &OsStr) -> Vec<usize> {
+        let Some(word) = word.to_str() else { return vec![] };
+        if !word.is_empty() && word.bytes().all(|byte| byte.is_ascii_digit()) {
+            // A number too large for any is the greatest there is.
+            return vec![word.parse().unwrap_or(usize::MAX)];
+        }
+        let is_called =
+            |(number, name): &(&usize, &String)| *name == word || self.fact(**number) == word;
+        let mut facts: Vec<usize> = self.0[0].iter().filter(is_called).map(|(n, _)| *n).collect();
+        facts.sort_unstable();
+        facts
+    }
+
     /// Without any, a list of all facts would say nothing.
     pub fn has_facts(&self) -> bool {
         !self.0[0].is_empty()

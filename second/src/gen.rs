@@ -130,9 +130,14 @@ pub fn pair(seed: u64, index: u64) -> Pair {
     } else {
         (some_pair(&mut rng), None)
     };
-    pair.index_len = some_index(&mut rng, places_in(&pair.model));
+    let places = places_in(&pair.model);
+    pair.index_len = some_index(&mut rng, places);
     pair.list_len = some_list(&mut rng, rules_in(&pair.model));
-    pair.ask = ask.unwrap_or_else(|| some_ask(&mut rng));
+    match ask {
+        // It can decide only if there is room for it.
+        Some(ask) => (pair.ask, pair.index_len) = (ask, pair.index_len.max(places)),
+        None => pair.ask = some_ask(&mut rng),
+    }
     pair
 }
 

@@ -38,6 +38,13 @@ fn main() {
     for (name, model) in listings() {
         whole_listing(name, &write_model(&model));
     }
+    println!("\nOne fact in the last state, all but its closing taken off, against that state's full closing");
+    early_stops();
+    println!(
+        "\nThe whole call, against the plain reader and a plain worklist that stops: judging on both sides"
+    );
+    head();
+    whole_stops();
     println!("\nHow the time grows with the body places: judging, index and closing");
     indexed_growth();
     println!(
@@ -279,6 +286,62 @@ fn listings() -> Vec<(&'static str, Model)> {
     ]
 }
 
+/// A reversed chain of 4,000 clauses, fact f in round f, and facts of it: stored, in round 3, half way, last, absent.
+fn chain_and_facts() -> (Vec<u8>, [(&'static str, usize); 5]) {
+    let facts = [
+        ("a stored fact", 0),
+        ("a fact of round 3", 3),
+        ("a fact of round 2,000", 2_000),
+        ("a fact of the last round", 4_000),
+        ("an absent fact", 4_001),
+    ];
+    (write_model(&chains(4_000, 4_000, true)), facts)
+}
+
+/// Early closings by themselves. What a check takes without steps, less one closing, is judging, building the index and
+/// the goal: that is taken off. One closing is a step's share of 256, since the rule changes nothing.
+fn early_stops() {
+    println!("{:58} {:>13} {:>13} {:>7}", "", "early, ns", "full, ns", "ratio");
+    let (model, facts) = chain_and_facts();
+    let [none, many] = [0, 256].map(|steps| write_trace(0, &vec![0; steps]));
+    for (name, fact) in facts {
+        let [mut one, mut two, mut three] = [0; 3].map(|_| Own::new());
+        let mut with = || one.holds(black_box(&model), &none, fact);
+        let mut rest = || two.indexed(black_box(&model), &none).rounds as u64;
+        let mut all = || three.indexed(black_box(&model), &many).rounds as u64;
+        assert_eq!(with(), fact.min(4_000) as u64, "{name}");
+        assert_eq!(all(), 257 * rest(), "{name}");
+        let [with, rest, all] = best([&mut with, &mut rest, &mut all]);
+        let full = (all - rest) / 256.0;
+        let early = (full - (rest - with)).max(0.0);
+        row(&format!("{name}, a chain of 4,000 clauses"), early, full);
+        // What request 8 is for. A machine that is busy is no reason to fail, so that it is said and not asserted.
+        if fact == 3 {
+            println!(
+                "{:58} {}",
+                "",
+                if early < full / 10.0 { "under a tenth" } else { "OVER A TENTH" }
+            );
+        }
+    }
+}
+
+/// The same as a whole, judging and the index on both sides.
+fn whole_stops() {
+    let (model, facts) = chain_and_facts();
+    let (trace, state) = (write_trace(0, &[]), state(&model));
+    for (name, fact) in facts {
+        let (mut one, mut list, mut table) = (Own::new(), Worklist::default(), [0; 4_096]);
+        let ours = || one.holds(black_box(&model), &trace, fact);
+        let theirs = || {
+            assert_eq!(plain::judge(black_box(&model)), 0);
+            list.build(clauses(&model));
+            list.close_until(&state, fact, &mut table).0 as u64
+        };
+        race(&format!("{name}, a chain of 4,000 clauses"), ours, theirs);
+    }
+}
+
 fn head() {
     println!("{:58} {:>13} {:>13} {:>7}", "", "library, ns", "rival, ns", "ratio");
 }
@@ -345,6 +408,12 @@ impl Own {
     fn rules(&mut self, model: &[u8], trace: &[u8]) -> u64 {
         let (mut lent, list) = self.parts();
         cantivorex::rules(model, trace, &mut lent, list).expect("listed") as u64
+    }
+
+    /// The rounds run for a fact.
+    fn holds(&mut self, model: &[u8], trace: &[u8], fact: usize) -> u64 {
+        let answer = cantivorex::holds(model, trace, fact, &mut self.parts().0);
+        answer.expect("answered").1 as u64
     }
 
     fn by_size(&mut self, model: &[u8], trace: &[u8]) -> cantivorex::Verdict {

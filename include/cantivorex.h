@@ -145,15 +145,16 @@ uint8_t cantivorex_rules(const uint8_t *model, size_t model_len, const uint8_t *
     uint8_t *state, size_t state_len, uint16_t *table, size_t table_len, uint8_t *names, size_t names_len,
     uint16_t *index, size_t index_len, uint16_t *list, size_t list_len, uint64_t *out, size_t out_len);
 
-/* Whether one fact holds in the last state after all steps. Answers 0 and writes its round number, or CANTIVOREX_NONE
- * for an absent one, and the rounds run on the last state to the front of `out`, as closing that state in full would
- * have it. Closing stops at the end of the round in which the fact arises: the first 4,096 entries of `table` show the
- * facts up to that round, and CANTIVOREX_NONE there says only that the rounds run did not reach the fact; for a stored
- * fact no round is run, for an absent one all are. State, names and index are left as by cantivorex_check_indexed, and
- * what lies beyond stays; the goal says nothing once there is one. Otherwise it answers 1 to 9, 12 or 17 and changes
- * nothing, 6 being also for a `fact` of F or more, after all that is said of both files and before any step; or 10 or
- * 13 for a step that does not fire, with state, table, names and index as cantivorex_check_indexed leaves them and
- * `out` as it was. With an `out` of fewer than 2 entries the answer is 1 and nothing is changed. */
+/* Whether one fact holds in the last state after all steps. Answers 0 and writes two values to the front of `out`: the
+ * fact's round number as closing that state in full would have it, or CANTIVOREX_NONE if it is absent; and the rounds
+ * run on that state. Closing stops at the end of the round in which the fact arises: the first 4,096 entries of `table`
+ * show the facts up to that round, and CANTIVOREX_NONE there says only that the rounds run did not reach the fact. For
+ * a stored fact no round is run, for an absent one all are. State, names and index are left as by
+ * cantivorex_check_indexed, and what lies beyond stays; the goal says nothing once there is one. Otherwise it answers 1
+ * to 9, 12 or 17 and changes nothing, 6 being also for a `fact` of F or more, after all that is said of both files and
+ * before any step; or 10 or 13 for a step that does not fire, with state, table, names and index as
+ * cantivorex_check_indexed leaves them and `out` as it was. With an `out` of fewer than 2 entries the answer is 1 and
+ * nothing is changed. */
 uint8_t cantivorex_holds(const uint8_t *model, size_t model_len, const uint8_t *trace, size_t trace_len, size_t fact,
     uint8_t *state, size_t state_len, uint16_t *table, size_t table_len, uint8_t *names, size_t names_len,
     uint16_t *index, size_t index_len, uint64_t *out, size_t out_len);

@@ -111,7 +111,7 @@ impl Form {
     }
 
     /// The library's check against the verdict of the second program, and what that left.
-    fn is(
+    fn agrees(
         self,
         model: &[u8],
         trace: &[u8],
@@ -134,7 +134,7 @@ impl Form {
 pub fn check(model: &[u8], trace: &[u8], lent: &mut Lent) -> Result<Verdict, String> {
     let ours = Buffers::guarded(lent);
     let verdict = second::check(model, trace, lent.state, lent.table, lent.names);
-    Form::Plain.is(model, trace, ours, &verdict, lent)?;
+    Form::Plain.agrees(model, trace, ours, &verdict, lent)?;
     Ok(verdict)
 }
 
@@ -143,7 +143,7 @@ pub fn check_indexed(model: &[u8], trace: &[u8], lent: &mut Lent) -> Result<Verd
     let ours = Buffers::guarded(lent);
     let Lent { state, table, names, index } = lent;
     let verdict = second::check_indexed(model, trace, state, table, names, index);
-    Form::Indexed.is(model, trace, ours, &verdict, lent)?;
+    Form::Indexed.agrees(model, trace, ours, &verdict, lent)?;
     Ok(verdict)
 }
 
@@ -162,7 +162,7 @@ pub fn check_forms(
     }
     // It is not lent, so that it stays as it is by now.
     inside(&mut ours.index).copy_from_slice(lent.index);
-    Form::Plain.is(model, trace, ours, &indexed, lent)?;
+    Form::Plain.agrees(model, trace, ours, &indexed, lent)?;
     Ok((indexed, indexed))
 }
 

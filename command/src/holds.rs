@@ -44,15 +44,12 @@ fn run(args: &Args) -> Result<u8, Failure> {
     let [model, trace, word] = operands(args, &COMMAND)?;
     let pair = Pair::read(model, trace)?;
     let names = Names::beside(model, &pair.model)?;
-    let fact = names.facts_called(word);
-    // A fact that can't be found is told after all that is wrong with the files.
-    let asked = match fact[..] {
-        [fact] => fact,
-        _ => usize::MAX,
-    };
-    let answer = judge::holds(&pair.model, &pair.trace, asked)
-        .map_err(|number| no_answer(number, &pair, word, &fact, &names))?;
-    let (line, exit) = text(&pair, asked, answer, &names);
+    let found = names.facts_called(word);
+    // One that isn't found is a fact that no model has: what is wrong with the files comes before it.
+    let fact = if let [fact] = found[..] { fact } else { usize::MAX };
+    let answer = judge::holds(&pair.model, &pair.trace, fact)
+        .map_err(|number| no_answer(number, &pair, word, &found, &names))?;
+    let (line, exit) = text(&pair, fact, answer, &names);
     let mut output = Output::open()?;
     output.line(&line)?;
     output.flush()?;
@@ -62,34 +59,25 @@ fn run(args: &Args) -> Result<u8, Failure> {
 fn text(pair: &Pair, fact: usize, answer: (Holds, usize), names: &Names) -> (String, u8) {
     let (steps, fact) = (&layout::trace_names(&pair.trace)[1..], names.fact(fact));
     let state = heading(steps.len(), steps, names);
-    match answer {
-        (Holds::Held { round: 0 }, _) => {
-            (format!("HELD since round 0: fact {fact} is stored in {state}"), 0)
-        }
-        (Holds::Held { round }, _) => {
-            (format!("HELD since round {round}: fact {fact} is derived in {state}"), 0)
-        }
+    let (said, how, exit) = match answer {
+        (Holds::Held { round: 0 }, _) => ("HELD since round 0".to_string(), "stored", 0),
+        (Holds::Held { round }, _) => (format!("HELD since round {round}"), "derived", 0),
         (Holds::Absent, rounds) => {
             let rounds = counted(rounds, "round");
-            (
-                format!(
-                    "ABSENT after {rounds}: fact {fact} is neither stored nor derived in {state}"
-                ),
-                ABSENT,
-            )
+            (format!("ABSENT after {rounds}"), "neither stored nor derived", ABSENT)
         }
-    }
+    };
+    (format!("{said}: fact {fact} is {how} in {state}"), exit)
 }
 
 /// Why the library gives none. The fact is the last thing that it looks at before the steps.
 fn no_answer(number: u8, pair: &Pair, word: &OsStr, found: &[usize], names: &Names) -> Failure {
     let verdict = judge::check(&pair.model, &pair.trace).verdict;
-    let trace = layout::trace_names(&pair.trace);
     match number {
         judge::FACT if !is_refusal(&verdict) => unusable(no_fact(pair, word, found)),
         judge::BLOCKED | judge::USED => {
-            let formula = Model::read(&pair.model);
-            let why = ending(&verdict, trace[0], formula.formula(trace[0]), &trace[1..], names);
+            let (model, trace) = (Model::read(&pair.model), layout::trace_names(&pair.trace));
+            let why = ending(&verdict, trace[0], model.formula(trace[0]), &trace[1..], names);
             unanswered(format!("{why}; there is no state after all steps"))
         }
         _ => unanswered(refusal(&verdict, pair)),

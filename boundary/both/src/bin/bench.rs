@@ -298,32 +298,44 @@ fn chain_and_facts() -> (Vec<u8>, [(&'static str, usize); 5]) {
     (write_model(&chains(4_000, 4_000, true)), facts)
 }
 
-/// Early closings by themselves. What a check takes without steps, less one closing, is judging, building the index and
-/// the goal: that is taken off. One closing is a step's share of 256, since the rule changes nothing.
+/// The least of many short turns of each, one after the other: so that a difference of a microsecond shows, also beside
+/// other work.
+fn least<const N: usize>(mut runs: [&mut dyn FnMut() -> u64; N]) -> [f64; N] {
+    let mut least = [f64::MAX; N];
+    for _ in 0..400 {
+        for (run, least) in runs.iter_mut().zip(&mut least) {
+            *least = least.min(time(4, run));
+        }
+    }
+    least
+}
+
+/// Early closings by themselves. An absent fact takes a full closing and all else: judging, building the index, writing
+/// the state. So all else is what it takes, less one closing, and that is taken off. One closing is a step's share of
+/// 16, since the rule changes nothing; what the step takes besides stays in both columns. The last row is of the rounds
+/// by themselves, without filling the table from the state, which a stored fact takes too.
 fn early_stops() {
     println!("{:58} {:>13} {:>13} {:>7}", "", "early, ns", "full, ns", "ratio");
     let (model, facts) = chain_and_facts();
-    let [none, many] = [0, 256].map(|steps| write_trace(0, &vec![0; steps]));
-    for (name, fact) in facts {
-        let [mut one, mut two, mut three] = [0; 3].map(|_| Own::new());
-        let mut with = || one.holds(black_box(&model), &none, fact);
-        let mut rest = || two.indexed(black_box(&model), &none).rounds as u64;
-        let mut all = || three.indexed(black_box(&model), &many).rounds as u64;
-        assert_eq!(with(), fact.min(4_000) as u64, "{name}");
-        assert_eq!(all(), 257 * rest(), "{name}");
-        let [with, rest, all] = best([&mut with, &mut rest, &mut all]);
-        let full = (all - rest) / 256.0;
-        let early = (full - (rest - with)).max(0.0);
-        row(&format!("{name}, a chain of 4,000 clauses"), early, full);
-        // What request 8 is for. A machine that is busy is no reason to fail, so that it is said and not asserted.
-        if fact == 3 {
-            println!(
-                "{:58} {}",
-                "",
-                if early < full / 10.0 { "under a tenth" } else { "OVER A TENTH" }
-            );
-        }
+    let [none, some] = [0, 16].map(|steps| write_trace(0, &vec![0; steps]));
+    let [mut one, mut two] = [0; 2].map(|_| Own::new());
+    let mut rest = || one.indexed(black_box(&model), &none).rounds as u64;
+    let mut all = || two.indexed(black_box(&model), &some).rounds as u64;
+    assert_eq!(all(), 17 * rest());
+    let [mut a, mut b, mut c, mut d, mut e] = facts.map(|(name, fact)| {
+        let (model, none, mut own) = (&model, &none, Own::new());
+        assert_eq!(own.holds(model, none, fact), fact.min(4_000) as u64, "{name}");
+        move || own.holds(black_box(model), none, fact)
+    });
+    let [rest, all, calls @ ..] =
+        least([&mut rest, &mut all, &mut a, &mut b, &mut c, &mut d, &mut e]);
+    let full = (all - rest) / 16.0;
+    let [stored, third, .., absent] = calls;
+    for ((name, _), call) in facts.iter().zip(calls) {
+        row(&format!("{name}, a chain of 4,000 clauses"), full - (absent - call), full);
     }
+    row("the rounds up to 3 alone", third - stored, absent - stored);
+    println!("request 8 asks that a fact of round 3 takes under a tenth of a full closing");
 }
 
 /// The same as a whole, judging and the index on both sides.

@@ -11,7 +11,8 @@ use Rattle.files.specs.Files.{modelOf, filesFault, stepsFault}
 use Rattle.files.specs.declared.Part.{Part}
 use Rattle.files.proofs.Answers.{Blames}
 use Rattle.closing.specs.Closing.{IndexHolds, Index, noPlaces}
-use Rattle.checking.specs.Verdict.{Lent, noSpace, nothing, refused, blamed, refusalIndexed, outcome, ran, verdictOf}
+use Rattle.checking.specs.Verdict.{Lent, noSpace, nothing, refused}
+use Rattle.checking.specs.Verdict.{blamed, refusalIndexed, outcome, ran, verdictOf}
 use Rattle.checking.specs.Verdict.{Left, Buffers, CheckedIndexed}
 use Rattle.checking.specs.declared.Verdict.{Verdict}
 

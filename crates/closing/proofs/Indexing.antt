@@ -19,7 +19,8 @@ use Rattle.indexing.specs.Placing.{Cleared}
 use Rattle.worklist.specs.Working.{Works}
 use Rattle.worklist.specs.declared.Worked.{Worked}
 use Rattle.worklist.proofs.Laws.{zeros-at}
-use Rattle.closing.specs.Closing.{noRoom, someFrom, stateRefusal, closeRefusalIndexed, noPlaces, IndexHolds, Index}
+use Rattle.closing.specs.Closing.{noRoom, someFrom, stateRefusal}
+use Rattle.closing.specs.Closing.{closeRefusalIndexed, noPlaces, IndexHolds, Index}
 use Rattle.closing.specs.Closing.{Table, answerIndexed, Builds, Crosses}
 use Rattle.closing.specs.declared.Crossed.{Crossed}
 

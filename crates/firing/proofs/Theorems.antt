@@ -24,11 +24,10 @@ use Rattle.meaning.proofs.Theorems.{fires-exactly}
 use Rattle.meaning.proofs.Reaching.{afterRule}
 use Rattle.meaning.proofs.Runs.{reach-fires}
 use Rattle.records.specs.Records.{given, _orElse_}
-use Rattle.files.specs.Files.{Blamed, modelOf, traceOf, filesFault, stepsFault, pairFault}
-use Rattle.files.specs.Answers.{blamedNumber}
+use Rattle.files.specs.Files.{modelOf, traceOf, filesFault, stepsFault, pairFault}
 use Rattle.closing.specs.Closing.{noPlaces}
 use Rattle.closing.proofs.Crossings.{index-left}
-use Rattle.checking.specs.Verdict.{Lent, noSpace, refused, blamed, refusal, outcome, Buffers}
+use Rattle.checking.specs.Verdict.{Lent, noSpace, refused, refusal, outcome, Buffers}
 use Rattle.checking.specs.declared.Verdict.{Verdict}
 use Rattle.checking.proofs.Refusals.{either-number}
 use Rattle.checking.proofs.Theorems.{LentBytes, buffers-unique}

@@ -1,6 +1,6 @@
--- What is promised of asking for one fact, over bytes: the answer is full closing's, the table shows the rounds run, and
--- refusals are the check's with FACT after them.
-use Prim.Native.Nat.{ℕ, _≤_, _<_}
+-- What is promised of asking for one fact, over bytes: the answer is full closing's, the table shows the rounds run,
+-- and refusals are the check's with FACT after them.
+use Prim.Native.Nat.{ℕ, _<_}
 use mathlib.Core.Path.{_≡_, refl, sym, ap, _∙_}
 use mathlib.Core.Logic.{_↔_}
 use mathlib.Core.Bool.{true, false}
@@ -23,7 +23,6 @@ use Rattle.meaning.proofs.Closing.{roundNumber-is, rounds-is, rounds-bound, mis
 use Rattle.meaning.proofs.Theorems.{closure-is-HC, HC-unique}
 use Rattle.meaning.proofs.Arriving.{number-le, number-rounds, round-closes}
 use Rattle.meaning.proofs.Early.{shown-in, shown-out, rounds-held, rounds-absent}
-use Rattle.facts.specs.Facts.{members}
 use Rattle.facts.proofs.Laws.{determined}
 use Rattle.records.specs.Records.{given, _orElse_}
 use Rattle.files.specs.Files.{Blamed, modelOf, shapeFault, factCount, filesFault, stepsFault, pairFault}
@@ -91,7 +90,8 @@ module _ {m t : List ℕ} {g : ℕ} {b a : Lent} {ix ix' : List ℕ} {k n : ℕ}
 
   -- A round number of the last state's closure is below 65,535.
   known-of : (f : ℕ) → T (closure cs S f) → roundNumber cs S f < 65535
-  known-of f i = omega (arith, number-rounds cs S f i, rounds-bound cs S, missingHeads-bound cs S, clauses-bound m shape)
+  known-of f i =
+      omega (arith, number-rounds cs S f i, rounds-bound cs S, missingHeads-bound cs S, clauses-bound m shape)
 
   -- What is left, then.
   left : LeftFor (modelOf m) (outcome m t) g b a
@@ -210,7 +210,8 @@ module _ {m t : List ℕ} {g : ℕ} {b a : Lent} {ix ix' : List ℕ} {k : ℕ}
 
   -- .. and a step that can't fire leaves all as the check does, whose number it has.
   pub blocked-as-checked : holdsRefusal m t g b ix ≡ none
-      → (k ≡ ran m t (outcome m t) .number) × Left (modelOf m) (outcome m t) b a × IndexHolds (modelOf m .clauses) ix ix'
+      → (k ≡ ran m t (outcome m t) .number) × Left (modelOf m) (outcome m t) b a
+      × IndexHolds (modelOf m .clauses) ix ix'
   unfolding answer stopped _orElse_ Buffers Index blockedBy ran numberOf
   blocked-as-checked e = go (outcome m t .ending) refl
     where

@@ -91,8 +91,8 @@ HoldsIn m t g before after ix ix' r = HoldsBy (holdsRefusal m t g before ix) m t
 
 -- ---- what follows, in words that name none of the definitions above
 
--- demand 3, read so: an entry that is shown is the fact's first round, and one of the rounds run; 65,535 "says only that
--- the rounds run didn't reach the fact"
+-- demand 3, read so: an entry that is shown is the fact's first round, and one of the rounds run; 65,535 "says only
+-- that the rounds run didn't reach the fact"
 pub record ShownUpTo (cs : List Clause) (S : Facts) (n f entry : ℕ) : Type 0 where
   pub stands : (entry ≡ 65535 → ⊥) → T (round cs S entry f)
   pub first : (entry ≡ 65535 → ⊥) → (r : ℕ) → r < entry → T (round cs S r f) → ⊥

@@ -9,7 +9,8 @@ ghost use Rattle.meaning.specs.Run.Condition.{positive};
 ghost use Rattle.records.specs.Words.{words};
 ghost use Rattle.closing.specs.Closing.{numbered};
 ghost use Rattle.files.specs.Known.{Known};
-ghost use Rattle.stepping.specs.Conditions.{stopNumber, factIn, kindIn, roundIn, conditionOf, unmetIn, KnownIn, namesIn};
+ghost use Rattle.stepping.specs.Conditions.{stopNumber, factIn, kindIn, roundIn};
+ghost use Rattle.stepping.specs.Conditions.{conditionOf, unmetIn, KnownIn, namesIn};
 ghost use Rattle.stepping.specs.Conditions.{ofKind, KnownList};
 
 // A condition with its fact: of P, which must be in the closure, or of N, which must not; or a name, to be unused.

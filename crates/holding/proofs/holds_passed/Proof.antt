@@ -8,7 +8,7 @@ use lib.Dec.{leb}
 use lib.ListN.{length}
 use denote.Ref.{now}
 use Rattle.meaning.specs.Model.{aims}
-use Rattle.files.specs.Files.{factCount, modelOf, stepsFault}
+use Rattle.files.specs.Files.{modelOf, stepsFault}
 use Rattle.files.specs.Answers.{countsOf, paired}
 use Rattle.files.specs.declared.Counts.{Counts}
 use Rattle.files.proofs.Answers.{paired-fine, paired-fault, steps-counted}

@@ -1,5 +1,4 @@
 -- `holding::run_for` meets its contract: the steps, then the last state closed for the fact.
-use mathlib.Core.Path.{_≡_, refl, sym, _∙_}
 use native.Mathlib.Omega.{arith}
 use denote.Ref.{now}
 use Rattle.files.proofs.Traces.{pair-shape}
@@ -72,7 +71,13 @@ slice-read-t32 c =
     let closed = c .before .before .before in
     let reached = last (told closed) in
     let s = start (codes-at reached) in
-    omega (arith, s .pre .3, closed .close-worked .ensures .as-long, reached .reach .ensures .as-long, s .pre .0 .entries)
+    omega (
+      arith,
+      s .pre .3,
+      closed .close-worked .ensures .as-long,
+      reached .reach .ensures .as-long,
+      s .pre .0 .entries,
+    )
 
 cast-t33 : tie.Need-cast-t33
 cast-t33 c =

@@ -1,5 +1,5 @@
--- `worklist::drain` meets its contract: the facts before `at` have been taken, and all of them arose sooner than the one
--- asked for.
+-- `worklist::drain` meets its contract: the facts before `at` have been taken, and all of them arose sooner than the
+-- one asked for.
 use Prim.Native.Nat.{ℕ, _+_, _-_, _<_}
 use mathlib.Core.Path.{_≡_, refl, sym, _∙_}
 use mathlib.Core.List.{List}
@@ -56,14 +56,17 @@ module _ (c : tie.Then1 Inv-loop μ-loop) where
   abbrev now-arrays : Arrays
   now-arrays = arrays (head .loop .lacks) (head .loop .table) (head .loop .queue) (head .loop .n)
 
-  abbrev between : Between cs (stateIn (now (entry .args .table))) (entry .args .asked) at (head .loop .crossings) now-arrays
+  abbrev between : Between cs (stateIn (now (entry .args .table))) (entry .args .asked) at (head .loop .crossings)
+      now-arrays
   between = head .loop .inv .0
 
   abbrev f : ℕ
   f = getD (head .loop .queue) at 0
 
   waiting : (at < head .loop .n) × (getD (head .loop .table) f 0 < numberIn (head .loop .table) (entry .args .asked))
-  waiting = waits-more _ (head .loop .table) (head .loop .queue) (head .loop .n) at (sym (c .before .waits .ensures) ∙ c .if1 .taken)
+  waiting =
+      waits-more _ (head .loop .table) (head .loop .queue) (head .loop .n) at
+      (sym (c .before .waits .ensures) ∙ c .if1 .taken)
 
   few : at < 4096
   few = omega (arith, waiting .0, between .fits .full)

@@ -5,7 +5,7 @@ use mathlib.Core.List.{List}
 use mathlib.Core.Option.{Option, none, some, map}
 use lib.ListN.{length}
 use Rattle.meaning.specs.Model.{Model, aims}
-use Rattle.records.specs.Records.{◌orElse◌}
+use Rattle.records.specs.Records.{◌or_else◌}
 use Rattle.sections.specs.Sections.{too_long, wrong_version}
 use Rattle.sections.proofs.Fits.{neither}
 use Rattle.files.specs.Files.{Blamed, model_of_lem, model_bytes, trace_bytes, model_version, trace_version, shape_fault}
@@ -19,7 +19,7 @@ trace_alone M t =
     or_else map trace (trace_fault (length (aims M)) (length M.rules) t)
 
 trace-alone : (m t : List ℕ) → model_fault m ≡ none → pair_fault m t ≡ trace_alone (model_of_lem m) t
-unfolding model_fault pair_fault files_fault heads_fault ◌orElse◌
+unfolding model_fault pair_fault files_fault heads_fault ◌or_else◌
 trace-alone m t fine =
     let (short, rest) = neither (too_long model_bytes m) _ fine in
     let (version, shape) = neither (wrong_version model_version m) (shape_fault m) rest in

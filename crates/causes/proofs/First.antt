@@ -13,7 +13,7 @@ use borrow.Author.Tests.{leb-true, ltb-true, ltb-false, eqb-true, eqb-false, le-
 use Rattle.sets.specs.Sets.{any, ◌∈◌}
 use Rattle.sets.proofs.Laws.{is_true, passes, fails, by-test, both, any_in, any_intro}
 use Rattle.records.specs.Words.{word, words, odd, ascending}
-use Rattle.records.specs.Records.{given, ◌orElse◌, bare}
+use Rattle.records.specs.Records.{given, ◌or_else◌, bare}
 use Rattle.records.specs.declared.Kind.TheVariants as kind
 use Rattle.records.proofs.Words.{odd-length, even-length}
 use Rattle.sections.specs.Sections.{sizes}
@@ -63,7 +63,7 @@ module _ (W : ℕ → Type 0) (i : ℕ) where
   pub first_next : (test : Bool) (rest : Option ℕ) → (test ≡ true → W i) → (test ≡ false → W i → ⊥)
       → ((n : ℕ) → W n → (n ≡ i) ⊎ (turn i < turn n))
       → First rest (λ n. W n × (turn i < turn n)) → First (given test i or_else rest) W
-  unfolding given ◌orElse◌
+  unfolding given ◌or_else◌
   first_next true rest hit miss low later =
       (hit refl, λ j h w. ⊎_elim (λ e. omega (arith, ap turn e)) (λ l. omega arith) (low j w))
   first_next false rest hit miss low later = go rest later
@@ -163,9 +163,9 @@ module _ (number limit : ℕ) (bytes : List ℕ) (after : turn 4 < turn number) 
       last (WrongNumbers.order h) l m = refl
 
 pub facts-first : (F : ℕ) (bytes : List ℕ) → First (bare false F bytes) (WrongFacts F bytes)
-unfolding bare turn given ◌orElse◌
+unfolding bare turn given ◌or_else◌
 facts-first F bytes = numbers-first 6 F bytes (lit< tt) (lit< tt)
 
 pub names-first : (bytes : List ℕ) → First (bare true 1024 bytes) (WrongNames bytes)
-unfolding bare turn given ◌orElse◌
+unfolding bare turn given ◌or_else◌
 names-first bytes = numbers-first 12 1024 bytes (lit< tt) (lit< tt)

@@ -13,7 +13,7 @@ use lib.ListN.{length, take, drop, get_or, length-take, length-drop, take-append
 use lib.Seq.{drop-drop, drop-append-le, take-append-le, take-length, length-take-le}
 use Rattle.sets.proofs.Laws.{by-test}
 use Rattle.records.specs.Words.{word}
-use Rattle.records.specs.Records.{given, ◌orElse◌, record_of_lem, records, place_of, bare, first_from, first_fault_lem}
+use Rattle.records.specs.Records.{given, ◌or_else◌, record_of_lem, records, place_of, bare, first_from, first_fault_lem}
 use Rattle.records.specs.declared.Fault.{Fault}
 use Rattle.records.proofs.Sections.{rest_of, record-fits, record-rest, first-here, first-later}
 use Rattle.records.proofs.Places.{place-record, place_le}
@@ -31,7 +31,7 @@ use Rattle.causes.proofs.Wrong.{number_in}
 module _ {A : Type 0} where
   -- The first of two that are looked for is the one found, or the second where there is no first.
   pub either-found : (x y : Option A) (a : A) → (x or_else y) ≡ some a → (x ≡ some a) ⊎ ((x ≡ none) × (y ≡ some a))
-  unfolding ◌orElse◌
+  unfolding ◌or_else◌
   either-found none y a e = inr (refl, e)
   either-found (some b) y a e = inl e
 

@@ -13,7 +13,7 @@ use borrow.Author.Tests.{leb-true, ltb-true, le-leb, lt-leb, lt-ltb, not-true}
 use Rattle.sets.specs.Sets.{any, ◌∈◌}
 use Rattle.sets.proofs.Laws.{is_true, passes, fails, by-test, either, below_or_from, any_in, any_intro}
 use Rattle.records.specs.Words.{ascending}
-use Rattle.records.specs.Records.{given, ◌orElse◌, lists_of, most, judge_lists, judge, bare}
+use Rattle.records.specs.Records.{given, ◌or_else◌, lists_of, most, judge_lists, judge, bare}
 use Rattle.records.proofs.Judging.{judge-lists, judge-formula}
 use Rattle.lists.proofs.Rows.{longest, asked}
 use Rattle.records.specs.declared.Kind.{Kind}

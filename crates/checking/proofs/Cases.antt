@@ -9,7 +9,7 @@ use mathlib.Core.Option
 use Rattle.sets.specs.Sets.{listed, ◌∈◌}
 use Rattle.meaning.specs.Rounds.{round_number}
 use Rattle.records.specs.Codes.{behind, is_formula_lem}
-use Rattle.records.specs.Records.{given, ◌orElse◌}
+use Rattle.records.specs.Records.{given, ◌or_else◌}
 use Rattle.formulas.specs.Codes.{read}
 use Rattle.files.specs.Files.{model_of_lem, pair_fault}
 use Rattle.causes.specs.Written.{rule_bytes, written_model, written_trace}
@@ -25,7 +25,7 @@ unfolding verdict_of_lem blamed pair_fault
 roomy m t = verdict_of_lem m t (Option.map blamed (pair_fault m t))
 
 roomy-is : (m t : List ℕ) (l : Lent) → no_space_lem l ≡ false → verdict m t l ≡ roomy m t
-unfolding roomy refusal given ◌orElse◌
+unfolding roomy refusal given ◌or_else◌
 roomy-is m t l e = rw e
 
 -- the line of a row

@@ -16,7 +16,7 @@ use Rattle.meaning.specs.Run.{Outcome, outcome_of, run}
 use Rattle.meaning.specs.Run.Ending.{upheld}
 use Rattle.meaning.specs.Published.{Path, AimMet, earlier}
 use Rattle.meaning.specs.Promises.{rounds_on, still_true}
-use Rattle.meaning.specs.Promises.EndsSo.{not_met as so-notMet}
+use Rattle.meaning.specs.Promises.EndsSo.{not_met as so_not_met}
 use Rattle.meaning.proofs.Theorems.{closure-is-HC, is-run}
 use Rattle.meaning.proofs.Running.{the_closure, path-past}
 use Rattle.files.specs.Files.{model_of_lem, trace_of}
@@ -59,7 +59,7 @@ module _ (m t : List ℕ) (p : Formula) (is : aim_of (model_of_lem m) (trace_of 
     kept-is = is-run (model_of_lem m) (trace_of t) (record {
       path = whole f.path;
       ends =
-          so-notMet upheld refl refl _ (closure-is-HC (model_of_lem m).clauses f.last.facts)
+          so_not_met upheld refl refl _ (closure-is-HC (model_of_lem m).clauses f.last.facts)
           (rw (is, same-past) (still_true f.is));
       rounds = refl;
       past = refl;

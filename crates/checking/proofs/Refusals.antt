@@ -8,7 +8,7 @@ use lib.Dec.{ltb}
 use borrow.Author.Tests.{ltb-false}
 use lib.ListN.{length}
 use Rattle.sets.proofs.Laws.{by-test}
-use Rattle.records.specs.Records.{given, ◌orElse◌}
+use Rattle.records.specs.Records.{given, ◌or_else◌}
 use Rattle.records.proofs.Judging.{or_clear}
 use Rattle.files.specs.Files.{Blamed, pair_fault}
 use Rattle.files.specs.Answers.{blamed_number}
@@ -36,18 +36,18 @@ spacious l room fine =
 module _ (m t : List ℕ) (l : Lent) where
   -- Without room 1 is given.
   pub refuses_room : no_space_lem l ≡ true → refusal m t l ≡ some (refused 1 nothing)
-  unfolding refusal given ◌orElse◌
+  unfolding refusal given ◌or_else◌
   refuses_room e = rw e
 
   -- With room a pair's fault is.
   pub refuses_fault : no_space_lem l ≡ false → (b : Blamed) → pair_fault m t ≡ some b
       → refusal m t l ≡ some (blamed b)
-  unfolding refusal given ◌orElse◌
+  unfolding refusal given ◌or_else◌
   refuses_fault room b e = rw (room, e)
 
   -- Nothing refuses a well_formed pair.
   pub refuses_none : WellFormed m t l → refusal m t l ≡ none
-  unfolding refusal given ◌orElse◌
+  unfolding refusal given ◌or_else◌
   refuses_none w = rw (w.room, w.fine)
 
   -- A property of the verdict, from what decides it.
@@ -79,6 +79,6 @@ verdict-number none = refl
 pub either_number : (files steps : Option Blamed)
     → (map blamed_number files or_else map blamed_number steps)
     ≡ map (λ (v : Verdict). v.number) (map blamed (files or_else steps))
-unfolding ◌orElse◌ blamed refused
+unfolding ◌or_else◌ blamed refused
 either_number (some b) steps = refl
 either_number none steps = verdict-number steps

@@ -18,7 +18,7 @@ use Rattle.meaning.specs.Run.{Ending, Outcome}
 use Rattle.meaning.specs.Run.Condition.{unused}
 use Rattle.meaning.specs.Published.{HC, TrueAttack}
 use Rattle.meaning.specs.Promises.{FirstUnmet, IsOutcome, GoalUnmet, lacks, still_true, EndsSo, rounds_on}
-use Rattle.meaning.specs.Promises.EndsSo.{attack as so-attack, blocked as so-blocked, not_met as so-notMet}
+use Rattle.meaning.specs.Promises.EndsSo.{attack as so-attack, blocked as so-blocked, not_met as so_not_met}
 use Rattle.meaning.proofs.Theorems.{accepted, run_is, closure-inside, round_number-is, rounds-bound, missing_heads-bound}
 use Rattle.meaning.proofs.Running.{the_closure}
 use Rattle.meaning.proofs.Runs.{Below, run-below}
@@ -256,7 +256,7 @@ module _ (m t : List ℕ) (l : Lent) where
             blocked = λ _. s;
             no_fact = λ not _. absurd (not number);
           }
-      of_run (so-notMet x e s X hc u) =
+      of_run (so_not_met x e s X hc u) =
           let number : number_of (outcome m t).ending ≡ 11 = ap number_of e ∙ (goal-ends m t 0 u).0 in
           record {
             refused = λ q. absurd (omega (arith, refused-is q));
@@ -341,4 +341,4 @@ module _ (m t : List ℕ) (l : Lent) where
             of_formula = λ q. absurd (omega (arith, stopping_is (stop_range c)));
             of_name = λ q. rw (ap fact_of e, ← stop_used c (sym number ∙ q)) (in_closure hc u);
           }
-      of_run (so-notMet x e h X hc u) = of_aim u refl e hc
+      of_run (so_not_met x e h X hc u) = of_aim u refl e hc

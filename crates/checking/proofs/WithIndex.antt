@@ -11,7 +11,7 @@ use borrow.Author.Tests.{ltb-true, ltb-false}
 use lib.ListN.{length}
 use Rattle.sets.proofs.Laws.{by-test}
 use Rattle.meaning.specs.Worklist.{body_places}
-use Rattle.records.specs.Records.{given, ◌orElse◌}
+use Rattle.records.specs.Records.{given, ◌or_else◌}
 use Rattle.files.specs.Files.{Blamed, model_of_lem, files_fault, pair_fault}
 use Rattle.files.proofs.Traces.{fine_pair}
 use Rattle.causes.proofs.Exact.{files_exactly}
@@ -46,7 +46,7 @@ module _ (m t : List ℕ) (l : Lent) (ix : List ℕ) where
       ⊎ ((refusal_indexed m t l ix ≡ refusal m t l) × (IndexShort m t l ix → ⊥))
 
   by_index : ByIndex
-  unfolding refusal_indexed refusal given ◌orElse◌ pair_fault no_places_lem
+  unfolding refusal_indexed refusal given ◌or_else◌ pair_fault no_places_lem
   by_index =
       by-test (no_space_lem l) (λ e. inr (rw e, λ s. true≢false (sym e ∙ s.room))) (λ e. judged e (files_fault m t) refl)
     where

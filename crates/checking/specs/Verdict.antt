@@ -3,7 +3,7 @@
 use Rattle.std.specs.Prelude.{ℕ, ◌≡◌, Bool, ◌||◌, List, ltb, length}
 use Rattle.std.proofs.Math.Option.{Option, none, some, map}
 use Rattle.meaning.specs.Model.{aims}
-use Rattle.records.specs.Records.{given, ◌orElse◌}
+use Rattle.records.specs.Records.{given, ◌or_else◌}
 use Rattle.files.specs.Files.{Blamed, model_of_lem, files_fault, steps_fault, pair_fault}
 use Rattle.files.specs.Answers.{blamed_number, blamed_part}
 use Rattle.files.specs.declared.Part.{Part}
@@ -32,7 +32,7 @@ blamed b = refused (blamed_number b) (blamed_part b)
 
 -- "Order: 1; 2 (model, then trace); .. all before any step is run.": no room, then the pair's first fault
 unfoldable pub refusal : List ℕ → List ℕ → Lent → Option Verdict
-unfolding no_space_lem refused blamed given ◌orElse◌ pair_fault
+unfolding no_space_lem refused blamed given ◌or_else◌ pair_fault
 refusal m t l = given (no_space_lem l) (refused 1 nothing) or_else map blamed (pair_fault m t)
 
 -- ---- the verdict
@@ -61,7 +61,7 @@ pub record Checked (m t : List ℕ) (before after : Lent) (v : Verdict) : Type 0
 -- "Refusals: ROOM, right after NEGATED, if the lent index has fewer entries than the model has body places": after the
 -- model's numbers, before the trace's 4, 5 and 9
 unfoldable pub refusal_indexed : List ℕ → List ℕ → Lent → List ℕ → Option Verdict
-unfolding no_space_lem refused blamed given ◌orElse◌ files_fault no_places_lem model_of_lem aims
+unfolding no_space_lem refused blamed given ◌or_else◌ files_fault no_places_lem model_of_lem aims
 refusal_indexed m t l index =
     given (no_space_lem l) (refused 1 nothing)
     or_else map blamed (files_fault m t)

@@ -16,7 +16,7 @@ use Rattle.meaning.specs.Model.{Clause}
 use Rattle.meaning.specs.Rounds.{rounds}
 use Rattle.facts.specs.Facts.{members, AnyFrom}
 use Rattle.facts.proofs.Laws.{beyond}
-use Rattle.records.specs.Records.{given, ◌orElse◌}
+use Rattle.records.specs.Records.{given, ◌or_else◌}
 use Rattle.records.proofs.Judging.{or_clear}
 use Rattle.records.specs.declared.Fault.{Fault}
 use Rattle.files.specs.Files.{fact_count, model_of_lem, shape_fault, model_fault}
@@ -90,26 +90,26 @@ module _ (m state before : List ℕ) where
 
   -- without room
   pub no_room : no_room_lem state before ≡ true → Closes m state before before (Closed.Refused 1)
-  unfolding given ◌orElse◌ close_refusal answer Table
+  unfolding given ◌or_else◌ close_refusal answer Table
   no_room e = record { answers = rw e; table = rw e refl }
 
   -- a fault of the model refuses with its number
   pub model-refused : (f : Fault) → no_room_lem state before ≡ false → model_fault m ≡ some f
       → Closes m state before before (Closed.Refused f.number)
-  unfolding given ◌orElse◌ close_refusal answer Table
+  unfolding given ◌or_else◌ close_refusal answer Table
   model-refused f e h = record { answers = rw (e, h); table = rw (e, h) refl }
 
   -- with none, the state tells
   pub model-fine : (after : List ℕ) (r : Closed) → no_room_lem state before ≡ false → model_fault m ≡ none
       → ClosesKnown m state before after r → Closes m state before after r
-  unfolding given ◌orElse◌ close_refusal
+  unfolding given ◌or_else◌ close_refusal
   model-fine after r e h c = record { answers = rw (e, h) c.answers; table = rw (e, h) c.table }
 
 -- ---- the numbers
 
 -- Number 8 is never given.
 pub never-eight : (m state table : List ℕ) → close_refusal m state table ≡ some 8 → ⊥
-unfolding close_refusal given ◌orElse◌
+unfolding close_refusal given ◌or_else◌
 never-eight m state table e = go (no_room_lem state table) (model_fault m) refl (some_from (fact_count m) (members state)) e
   where
     go : (short : Bool) (found : Option Fault) → model_fault m ≡ found → (from-F : Bool)
@@ -142,7 +142,7 @@ closes_unique {model} {state} {before} {a} {b} x y = (
 
 -- What refuses nothing has no fault in the model.
 unrefused : (m state table : List ℕ) → close_refusal m state table ≡ none → model_fault m ≡ none
-unfolding close_refusal given ◌orElse◌
+unfolding close_refusal given ◌or_else◌
 unrefused m state table e = go (no_room_lem state table) (model_fault m) refl e
   where
     go : (short : Bool) (found : Option Fault) → model_fault m ≡ found

@@ -17,7 +17,7 @@ use Rattle.meaning.specs.Working.{Known}
 use Rattle.meaning.proofs.Theorems.{worked-crossings, crossings-bound, steps_are_crossings, index-places}
 use Rattle.facts.specs.Facts.{members}
 use Rattle.facts.proofs.Laws.{beyond}
-use Rattle.records.specs.Records.{given, ◌orElse◌}
+use Rattle.records.specs.Records.{given, ◌or_else◌}
 use Rattle.records.specs.declared.Fault.{Fault}
 use Rattle.files.specs.Files.{model_of_lem, shape_fault, model_fault}
 use Rattle.files.proofs.Traces.{fine-shape}
@@ -77,7 +77,7 @@ module _ (m state table ix : List ℕ) where
       ⊎ ((close_refusal_indexed m state table ix ≡ close_refusal m state table) × (IndexShort m state table ix → ⊥))
 
   by_index : ByIndex
-  unfolding close_refusal_indexed close_refusal given ◌orElse◌ no_places_lem
+  unfolding close_refusal_indexed close_refusal given ◌or_else◌ no_places_lem
   by_index =
       by-test (no_room_lem state table) (λ e. inr (rw e, λ s. short (short-is state table e) s.room))
       (λ e. judged e (model_fault m) refl)

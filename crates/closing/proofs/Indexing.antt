@@ -9,7 +9,7 @@ use lib.ListN.{length, take, replicate}
 use lib.Seq.{get_or-take, length-take-le}
 use Rattle.meaning.specs.Rounds.{rounds}
 use Rattle.facts.specs.Facts.{members}
-use Rattle.records.specs.Records.{given, ◌orElse◌}
+use Rattle.records.specs.Records.{given, ◌or_else◌}
 use Rattle.records.specs.declared.Fault.{Fault}
 use Rattle.sections.specs.declared.Role.TheVariants.{Clauses}
 use Rattle.files.specs.Files.{fact_count, section_of, clauses_in, model_of_lem, shape_fault, model_fault}
@@ -86,22 +86,22 @@ module _ (m state before ix : List ℕ) where
   -- ---- what refuses closing
 
   pub indexed_no_room : no_room_lem state before ≡ true → close_refusal_indexed m state before ix ≡ some 1
-  unfolding close_refusal_indexed given ◌orElse◌
+  unfolding close_refusal_indexed given ◌or_else◌
   indexed_no_room e = rw e
 
   module _ (room : no_room_lem state before ≡ false) where
     pub indexed-fault : (f : Fault) → model_fault m ≡ some f
         → close_refusal_indexed m state before ix ≡ some f.number
-    unfolding close_refusal_indexed given ◌orElse◌
+    unfolding close_refusal_indexed given ◌or_else◌
     indexed-fault f e = rw (room, e)
 
     pub indexed_no_places : model_fault m ≡ none → no_places_lem m ix ≡ true → close_refusal_indexed m state before ix ≡ some 1
-    unfolding close_refusal_indexed given ◌orElse◌
+    unfolding close_refusal_indexed given ◌or_else◌
     indexed_no_places fine e = rw (room, fine, e)
 
     pub indexed-fine : model_fault m ≡ none → no_places_lem m ix ≡ false
         → close_refusal_indexed m state before ix ≡ state_refusal m state
-    unfolding close_refusal_indexed given ◌orElse◌
+    unfolding close_refusal_indexed given ◌or_else◌
     indexed-fine fine e = rw (room, fine, e)
 
 -- What is left to promise is promised for what refuses the whole.

@@ -14,7 +14,7 @@ use Rattle.sets.specs.Sets.{first}
 use Rattle.sets.proofs.Laws.{is_true, passes, fails, both, by-test, below_or_from, first_hit, first-before}
 use Rattle.facts.specs.Facts.{members}
 use Rattle.facts.proofs.Laws.{beyond}
-use Rattle.records.specs.Records.{given, ◌orElse◌}
+use Rattle.records.specs.Records.{given, ◌or_else◌}
 use Rattle.records.specs.declared.Fault.{Fault}
 use Rattle.files.specs.Files.{fact_count, model_fault, model_of_lem}
 use Rattle.causes.proofs.Causes.{alone-cause}
@@ -74,7 +74,7 @@ module _ (m state table : List ℕ) where
       record { size = size; first = first; model = right }
 
   pub refusal-cause : {k : ℕ} → close_refusal m state table ≡ some k → RefusedFor m state table k
-  unfolding close_refusal given ◌orElse◌
+  unfolding close_refusal given ◌or_else◌
   refusal-cause {k} h =
       go (no_room_lem state table) refl (model_fault m) refl (some_from (fact_count m) (members state)) refl h
     where
@@ -92,7 +92,7 @@ module _ (m state table : List ℕ) where
       go false s none e false b h = absurd (none-ne-some k h)
 
   refusal-none : close_refusal m state table ≡ none → Answerable m state table
-  unfolding close_refusal given ◌orElse◌
+  unfolding close_refusal given ◌or_else◌
   refusal-none h =
       go (no_room_lem state table) refl (model_fault m) refl (some_from (fact_count m) (members state)) refl h
     where

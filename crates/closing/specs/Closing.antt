@@ -9,7 +9,7 @@ use Rattle.meaning.specs.Worklist.{index_below_lem, body_places, places_in, step
 use Rattle.meaning.specs.Published.{HC}
 use Rattle.meaning.specs.Promises.{IsRounds, IsRoundNumber, IsIndex}
 use Rattle.facts.specs.Facts.{members}
-use Rattle.records.specs.Records.{given, ◌orElse◌}
+use Rattle.records.specs.Records.{given, ◌or_else◌}
 use Rattle.sections.specs.declared.Role.TheVariants.{Clauses}
 use Rattle.files.specs.Files.{section_of, fact_count, model_of_lem, model_fault}
 use Rattle.causes.specs.Causes.{ModelCause, RightModel, ModelStarts}
@@ -69,7 +69,7 @@ state_refusal model state = given (some_from (fact_count model) (members state))
 -- number. 12 and 17 (document 02, wishes 9 and 11) are among the model's: "A number that a later request adds for the
 -- model is given wherever the model is judged"
 unfoldable pub close_refusal : List ℕ → List ℕ → List ℕ → Option ℕ
-unfolding given ◌orElse◌ no_room_lem model_fault some_from fact_count
+unfolding given ◌or_else◌ no_room_lem model_fault some_from fact_count
 close_refusal model state table =
     given (no_room_lem state table) 1
     or_else map (λ f. f.number) (model_fault model)
@@ -125,7 +125,7 @@ pub record Builds (model before after ends starts : List ℕ) (n : ℕ) : Type 0
 
 -- "Refusals: ROOM, right after NEGATED": after the model's numbers, before 6 for the starting state
 unfoldable pub close_refusal_indexed : List ℕ → List ℕ → List ℕ → List ℕ → Option ℕ
-unfolding given ◌orElse◌ no_room_lem model_fault no_places_lem some_from fact_count
+unfolding given ◌or_else◌ no_room_lem model_fault no_places_lem some_from fact_count
 close_refusal_indexed model state table index =
     given (no_room_lem state table) 1
     or_else map (λ f. f.number) (model_fault model)

@@ -7,7 +7,7 @@ use native.Mathlib.Omega.{arith}
 use Rattle.records.specs.declared.Fault.{Fault}
 use lib.ListN.{length}
 use Rattle.meaning.specs.Model.{aims}
-use Rattle.records.specs.Records.{◌orElse◌}
+use Rattle.records.specs.Records.{◌or_else◌}
 use Rattle.files.specs.Files.{Blamed, model_of_lem, files_fault, steps_fault, pair_fault}
 use Rattle.files.specs.Answers.{counts_of, judged, headed, paired, blamed_number, blamed_part}
 use Rattle.files.specs.declared.Counts.{Counts}
@@ -92,5 +92,5 @@ steps-counted m t n counts = rw (← counts)
 -- Where what comes before the trace is fine, the trace's own fault is the pair's.
 pub steps-after : (m t : List ℕ) (n : Counts) → files_fault m t ≡ none → counts_of m ≡ n
     → paired (steps_fault n.goals n.rules t) n ≡ paired (pair_fault m t) (counts_of m)
-unfolding pair_fault ◌orElse◌
+unfolding pair_fault ◌or_else◌
 steps-after m t n fine counts = rw fine (steps-counted m t n counts)

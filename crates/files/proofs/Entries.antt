@@ -12,7 +12,7 @@ use lib.ListN.{length, drop, length-drop}
 use borrow.Author.Tests.{lt-ltb, le-ltb, eqb-false}
 use Rattle.sets.specs.Sets.{first}
 use Rattle.records.specs.Words.{words, odd}
-use Rattle.records.specs.Records.{given, ◌orElse◌}
+use Rattle.records.specs.Records.{given, ◌or_else◌}
 use Rattle.records.specs.declared.Fault.{Fault}
 use Rattle.records.proofs.Words.{odd_is, length-words}
 use Rattle.sections.specs.Sections.{end_at, section_at, fits, payload, rest_fault_lem, moved, in_section, left_over, all_of}
@@ -57,7 +57,7 @@ answer goals rules file = passed (trace_fault goals rules file) (end_at file 1) 
 -- A trace whose section doesn't fit is at fault there.
 pub answer-unfit : (goals rules : ℕ) (file : List ℕ) → fits file 1 ≡ false
     → Passed.Fault (rest_fault_lem file 1) ≡ answer goals rules file
-unfolding trace_fault section_at in_section ◌orElse◌ passed
+unfolding trace_fault section_at in_section ◌or_else◌ passed
 answer-unfit goals rules file unfit = rw unfit
 
 module _ (goals rules : ℕ) (file : List ℕ) (end : ℕ) (ended : Ended file 1 end) (bytes : List ℕ)
@@ -81,7 +81,7 @@ module _ (goals rules : ℕ) (file : List ℕ) (end : ℕ) (ended : Ended file 1
   -- It is 4 for bytes that are too few or odd.
   pub answer-shape : (length bytes < 2) ⊎ (eqb (length bytes % 2) 1 ≡ true)
       → Passed.Fault (record { number = 4; start = 5; size = length bytes }) ≡ answer goals rules file
-  unfolding trace_shape given all_of moved ◌orElse◌ passed
+  unfolding trace_shape given all_of moved ◌or_else◌ passed
   answer-shape h = rw (chain, misshapen h)
     where
       misshapen : (length bytes < 2) ⊎ (eqb (length bytes % 2) 1 ≡ true) → (odd bytes || ltb (length bytes) 2) ≡ true
@@ -96,14 +96,14 @@ module _ (goals rules : ℕ) (file : List ℕ) (end : ℕ) (ended : Ended file 1
 
     -- It is 4 for the bytes after the section.
     pub answer-left : end < length file → Passed.Fault (rest_fault_lem file end) ≡ answer goals rules file
-    unfolding left_over given ◌orElse◌ passed
+    unfolding left_over given ◌or_else◌ passed
     answer-left h = rw (chain, whole, lt-ltb _ _ h)
 
     module _ (done : length file ≤ end) where
       -- It is 5 for too many steps.
       pub answer-count : 1024 < length bytes / 2 - 1
           → Passed.Fault (record { number = 5; start = 5; size = length bytes }) ≡ answer goals rules file
-      unfolding trace_count left_over given all_of moved ◌orElse◌ passed
+      unfolding trace_count left_over given all_of moved ◌or_else◌ passed
       answer-count h =
           let many : 1 + 1024 < length (words bytes) = omega (arith, length-words bytes) in
           rw (chain, whole, le-ltb _ _ done, lt-ltb _ _ many)
@@ -121,7 +121,7 @@ module _ (goals rules : ℕ) {file : List ℕ} {end : ℕ} {bytes : List ℕ} (s
     (found : at ≡ 2 * lacking goals rules (words bytes)) where
   -- then only the names are left
   names-left : trace_fault goals rules file ≡ map (moved 5) (trace_names goals rules bytes)
-  unfolding trace_count left_over given all_of ◌orElse◌
+  unfolding trace_count left_over given all_of ◌or_else◌
   names-left =
       let right = whole goals rules file end s.ended bytes s.entries s.long s.even in
       let counted : length (words bytes) ≤ 1 + 1024 = omega (arith, length-words bytes) in

@@ -15,7 +15,7 @@ use borrow.Author.Tests.{lt-ltb, le-ltb, leb-false, ltb-false, eqb-true, not-fal
 use Rattle.sets.specs.Sets.{any, ◌∈◌}
 use Rattle.sets.proofs.Laws.{by-test, is_false, fails, any_intro}
 use Rattle.records.specs.Words.{word, words, odd, ascending}
-use Rattle.records.specs.Records.{given, ◌orElse◌, record_of_lem, records, bare}
+use Rattle.records.specs.Records.{given, ◌or_else◌, record_of_lem, records, bare}
 use Rattle.records.specs.declared.Fault.{Fault}
 use Rattle.records.proofs.Sections.{record-size, records-none, records-next}
 use Rattle.records.proofs.Places.{by-records}
@@ -83,7 +83,7 @@ module _ (file : List ℕ) (F : ℕ) where
   -- The sizes are judged without F; so an F that is the model's where they are fine finds the same first fault.
   by-facts : (x : Option Fault) (rest : ℕ → Option Fault) → (x ≡ none → F ≡ fact_count file)
       → (x or_else rest (fact_count file)) ≡ (x or_else rest F)
-  unfolding ◌orElse◌
+  unfolding ◌or_else◌
   by-facts none rest told = ap rest (sym (told refl))
   by-facts (some f) rest told = refl
 

@@ -15,7 +15,7 @@ use Rattle.meaning.specs.Model.{aims}
 use Rattle.meaning.specs.Run.{named}
 use Rattle.records.specs.Words.{word, words, odd}
 use Rattle.records.specs.declared.Fault.{Fault}
-use Rattle.records.specs.Records.{◌orElse◌}
+use Rattle.records.specs.Records.{◌or_else◌}
 use Rattle.records.proofs.Words.{words-index, words-two, length-words, even-length}
 use Rattle.records.proofs.Judging.{or_clear}
 use Rattle.sections.specs.Sections.{long, section_at, fits, in_section, left_over, too_long, wrong_version}
@@ -159,7 +159,7 @@ files_shape m t e = (map-eq-none_iff model (shape_fault m)).0 (neither (heads_fa
 -- and where the trace has none either, the pair has none.
 pub stages_fine : (m t : List ℕ) → files_fault m t ≡ none
     → steps_fault (length (aims (model_of_lem m))) (length (model_of_lem m).rules) t ≡ none → pair_fault m t ≡ none
-unfolding pair_fault ◌orElse◌
+unfolding pair_fault ◌or_else◌
 stages_fine m t files steps = rw (files, steps)
 
 -- In a pair with no fault nothing is wrong with either file.

@@ -7,7 +7,7 @@ use Rattle.sets.specs.Sets.{first}
 use Rattle.meaning.specs.Model.{Clause, Rule, Goal, Model, Trace, aims}
 use Rattle.meaning.specs.Past.{Formula}
 use Rattle.records.specs.Words.{word, words, odd}
-use Rattle.records.specs.Records.{given, ◌orElse◌, records, list_of, codes_in}
+use Rattle.records.specs.Records.{given, ◌or_else◌, records, list_of, codes_in}
 use Rattle.records.specs.declared.Fault.{Fault}
 use Rattle.records.specs.declared.Kind.TheVariants as kind
 use Rattle.formulas.specs.Codes.{formula_of}
@@ -137,7 +137,7 @@ trace_of file = record { goal = word (entries_of file); steps = words (drop 2 (e
 -- "at the first fault in file order, section lengths being judged when they are reached .. Bytes after the last section
 -- come last.": sections of these roles, in a model of F facts, from a place on
 unfoldable pub fault_from : List Role → ℕ → List ℕ → ℕ → Option Fault
-unfolding ◌orElse◌ in_section reader left_over end_at
+unfolding ◌or_else◌ in_section reader left_over end_at
 fault_from [] F file at = left_over file at
 fault_from (r ∷ rs) F file at =
     in_section (reader (get_or file 0 0) r F) file at or_else fault_from rs F file (end_at file at)
@@ -163,7 +163,7 @@ trace_version = 1
 
 -- 2 to 7 in the order, for a model by itself
 unfoldable pub model_fault : List ℕ → Option Fault
-unfolding ◌orElse◌ too_long wrong_version shape_fault
+unfolding ◌or_else◌ too_long wrong_version shape_fault
 model_fault file = too_long model_bytes file or_else wrong_version model_version file or_else shape_fault file
 
 -- ---- the trace's faults, in order
@@ -193,7 +193,7 @@ trace_names goals rules bytes =
 
 -- "Then 4 for the trace (its section first, then bytes after it), then 5, then 9"
 unfoldable pub trace_fault : ℕ → ℕ → List ℕ → Option Fault
-unfolding ◌orElse◌ in_section left_over section_at trace_shape trace_count trace_names
+unfolding ◌or_else◌ in_section left_over section_at trace_shape trace_count trace_names
 trace_fault goals rules file =
     in_section trace_shape file (section_at file 0)
     or_else left_over file (section_at file 1)
@@ -209,7 +209,7 @@ pub data Blamed : Type 0 where
 
 -- "2 (model, then trace); 3 (model, then trace)"
 unfoldable pub heads_fault : List ℕ → List ℕ → Option Blamed
-unfolding ◌orElse◌ too_long wrong_version
+unfolding ◌or_else◌ too_long wrong_version
 heads_fault m t =
     Option.map model (too_long model_bytes m)
     or_else Option.map trace (too_long trace_bytes t)
@@ -219,7 +219,7 @@ heads_fault m t =
 -- what comes before the trace's own numbers: "then 4 to 7 for the model". A refusal of a tool that hangs on the model
 -- comes after it.
 unfoldable pub files_fault : List ℕ → List ℕ → Option Blamed
-unfolding ◌orElse◌ heads_fault shape_fault
+unfolding ◌or_else◌ heads_fault shape_fault
 files_fault m t = heads_fault m t or_else Option.map model (shape_fault m)
 
 -- "Then 4 for the trace .. then 5, then 9", for a model of so many goals and rules
@@ -229,5 +229,5 @@ steps_fault goals rules t = Option.map trace (trace_fault goals rules t)
 -- ".., all before any step is run."; "Goal numbers run on from the attack states." (document 02, wish 11), so that 9
 -- for a goal means as many as both together, or more
 unfoldable pub pair_fault : List ℕ → List ℕ → Option Blamed
-unfolding ◌orElse◌ files_fault trace_fault model_of_lem aims
+unfolding ◌or_else◌ files_fault trace_fault model_of_lem aims
 pair_fault m t = files_fault m t or_else steps_fault (length (aims (model_of_lem m))) (length (model_of_lem m).rules) t

@@ -8,7 +8,7 @@ use lib.Dec.{ltb}
 use lib.ListN.{length}
 use Rattle.meaning.specs.Model.{aims}
 use Rattle.meaning.specs.Rounds.{closure}
-use Rattle.records.specs.Records.{given, ◌orElse◌}
+use Rattle.records.specs.Records.{given, ◌or_else◌}
 use Rattle.facts.proofs.Laws.{beyond}
 use Rattle.files.specs.Files.{model_of_lem, shape_fault, files_fault, steps_fault}
 use Rattle.files.specs.Answers.{counts_of}
@@ -34,20 +34,20 @@ module _ (m t : List ℕ) (l : Lent) (ix list : List ℕ) where
 
   -- without room
   pub rules-room : no_space_lem l ≡ true → FiresIn m t l l ix ix list list (Fired.Refused 1)
-  unfolding rules_refusal given ◌orElse◌
+  unfolding rules_refusal given ◌or_else◌
   rules-room e = refused 1 (rw e)
 
   module _ (room : no_space_lem l ≡ false) where
     -- for a fault of sizes, versions or the model
     pub rules_files : {k : ℕ} {p : Part} → Blames (files_fault m t) k p
         → FiresIn m t l l ix ix list list (Fired.Refused k)
-    unfolding rules_refusal given ◌orElse◌
+    unfolding rules_refusal given ◌or_else◌
     rules_files b = rw b.number_is (refused _ (rw (room, b.is)))
 
     module _ (files : files_fault m t ≡ none) where
       -- without room for the list or the index
       pub rules-short : (list_short m list || no_places_lem m ix) ≡ true → FiresIn m t l l ix ix list list (Fired.Refused 1)
-      unfolding rules_refusal given ◌orElse◌
+      unfolding rules_refusal given ◌or_else◌
       rules-short e = refused 1 (rw (room, files, e))
 
       module _ (enough : (list_short m list || no_places_lem m ix) ≡ false) where
@@ -55,7 +55,7 @@ module _ (m t : List ℕ) (l : Lent) (ix list : List ℕ) where
         pub rules-steps : {k : ℕ} {p : Part}
             → Blames (steps_fault (length (aims (model_of_lem m))) (length (model_of_lem m).rules) t) k p
             → FiresIn m t l l ix ix list list (Fired.Refused k)
-        unfolding rules_refusal given ◌orElse◌
+        unfolding rules_refusal given ◌or_else◌
         rules-steps b = rw b.number_is (refused _ (rw (room, files, enough, b.is)))
 
         -- otherwise by the state that the run leaves
@@ -63,7 +63,7 @@ module _ (m t : List ℕ) (l : Lent) (ix list : List ℕ) where
             → {after : Lent} {ix' list' : List ℕ} {n : ℕ} → Left (model_of_lem m) (outcome m t) l after
             → IndexHolds (model_of_lem m).clauses ix ix' → Numbered (firing (model_of_lem m) (outcome m t).state) list list' n
             → FiresIn m t l after ix ix' list list' (Fired.Count n)
-        unfolding answer numbers_in LeftAsChecked Index rules_refusal given ◌orElse◌
+        unfolding answer numbers_in LeftAsChecked Index rules_refusal given ◌or_else◌
         rules-ran steps left holds listed =
             let e : rules_refusal m t l ix list ≡ none = rw (room, files, enough, steps) in
             rw e

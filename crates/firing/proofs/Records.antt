@@ -13,7 +13,7 @@ use Rattle.sets.proofs.Laws.{by-test}
 use Rattle.meaning.specs.Model.{Rule}
 use Rattle.meaning.specs.Run.{Condition, unmet}
 use Rattle.records.specs.Words.{word, words}
-use Rattle.records.specs.Records.{records, most, whole, lists_of, ◌orElse◌}
+use Rattle.records.specs.Records.{records, most, whole, lists_of, ◌or_else◌}
 use Rattle.records.proofs.Words.{even-length}
 use Rattle.lists.specs.Lists.{Cut, AllCut, ListBytes}
 use Rattle.lists.proofs.Laws.{judged-count}
@@ -67,7 +67,7 @@ module _ (m : List ℕ) (fine : shape_fault m ≡ none) where
 -- ---- whether it fires
 
 nowhere_of : (a b c : Option Condition) → nowhere (a or_else b or_else c) ≡ (nowhere a && nowhere b && nowhere c)
-unfolding nowhere ◌orElse◌
+unfolding nowhere ◌or_else◌
 nowhere_of none none c = refl
 nowhere_of none (some d) c = refl
 nowhere_of (some d) b c = refl

@@ -23,7 +23,7 @@ use Rattle.meaning.specs.Run.Ending.{attack, blocked, not_met, upheld}
 use Rattle.meaning.proofs.Theorems.{fires_exactly}
 use Rattle.meaning.proofs.Reaching.{after_rule}
 use Rattle.meaning.proofs.Runs.{reach-fires}
-use Rattle.records.specs.Records.{given, ◌orElse◌}
+use Rattle.records.specs.Records.{given, ◌or_else◌}
 use Rattle.files.specs.Files.{model_of_lem, trace_of, files_fault, steps_fault, pair_fault}
 use Rattle.closing.specs.Closing.{no_places_lem}
 use Rattle.closing.proofs.Crossings.{index-left}
@@ -292,7 +292,7 @@ module _ (m t : List ℕ) (l : Lent) (ix list : List ℕ) where
   -- With room for the list and the index the numbers are the check's,
   pub refuses_as_check : (list_short m list || no_places_lem m ix) ≡ false
       → rules_refusal m t l ix list ≡ map (λ (v : Verdict). v.number) (refusal m t l)
-  unfolding rules_refusal refusal pair_fault given ◌orElse◌ refused
+  unfolding rules_refusal refusal pair_fault given ◌or_else◌ refused
   refuses_as_check enough =
       let steps = steps_fault (length (aims (model_of_lem m))) (length (model_of_lem m).rules) t in
       by-test (no_space_lem l) (λ e. rw e) (λ e. rw (e, enough) (either_number (files_fault m t) steps))
@@ -300,7 +300,7 @@ module _ (m t : List ℕ) (l : Lent) (ix list : List ℕ) where
   -- and without it 1 is given where sizes, versions and model are right, whatever the trace.
   pub short-refused : (list_short m list || no_places_lem m ix) ≡ true → files_fault m t ≡ none
       → rules_refusal m t l ix list ≡ some 1
-  unfolding rules_refusal given ◌orElse◌
+  unfolding rules_refusal given ◌or_else◌
   short-refused short files = by-test (no_space_lem l) (λ e. rw e) (λ e. rw (e, files, short))
 
 -- ---- one result

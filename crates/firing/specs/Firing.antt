@@ -7,7 +7,7 @@ use Rattle.meaning.specs.Model.{Rule, Model, State, aims}
 use Rattle.meaning.specs.Rounds.{closure}
 use Rattle.meaning.specs.Run.{Condition, unmet, conditions}
 use Rattle.meaning.specs.Published.{Transition}
-use Rattle.records.specs.Records.{given, ◌orElse◌}
+use Rattle.records.specs.Records.{given, ◌or_else◌}
 use Rattle.files.specs.Files.{model_of_lem, files_fault, steps_fault}
 use Rattle.files.specs.Answers.{blamed_number}
 use Rattle.closing.specs.Closing.{Index, no_places_lem}
@@ -48,7 +48,7 @@ list_short m list = ltb (length list) (length (model_of_lem m).rules)
 -- "Refusals: 01's 1 to 9; a list with fewer entries than the model has rules is ROOM, right after NEGATED": so is an
 -- index with fewer entries than body places (wish 5); both before the trace's 4, 5 and 9
 unfoldable pub rules_refusal : List ℕ → List ℕ → Lent → List ℕ → List ℕ → Option ℕ
-unfolding given ◌orElse◌ no_space_lem files_fault list_short no_places_lem model_of_lem aims blamed_number
+unfolding given ◌or_else◌ no_space_lem files_fault list_short no_places_lem model_of_lem aims blamed_number
 rules_refusal m t l ix list =
     given (no_space_lem l) 1
     or_else map blamed_number (files_fault m t)

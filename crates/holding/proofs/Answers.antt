@@ -14,7 +14,7 @@ use Rattle.meaning.specs.Model.Aim.{state, formula}
 use Rattle.meaning.specs.Run.{Condition, Reached, ending, asked, asked_of, unmet, conditions, run, outcome_of}
 use Rattle.meaning.proofs.Early.{shown-asked}
 use Rattle.facts.specs.Facts.{members}
-use Rattle.records.specs.Records.{given, ◌orElse◌}
+use Rattle.records.specs.Records.{given, ◌or_else◌}
 use Rattle.files.specs.Files.{model_of_lem, trace_of, fact_count, files_fault, steps_fault}
 use Rattle.files.specs.declared.Part.{Part}
 use Rattle.files.proofs.Answers.{Blames}
@@ -112,24 +112,24 @@ module _ (m t : List ℕ) where
 module _ (m t : List ℕ) (g : ℕ) (l : Lent) (ix : List ℕ) where
   -- A refusal changes nothing.
   refused : (k : ℕ) → holds_refusal m t g l ix ≡ some k → HoldsIn m t g l l ix ix (Answer.Refused k)
-  unfolding stopped answer Buffers Index ◌orElse◌
+  unfolding stopped answer Buffers Index ◌or_else◌
   refused k e = rw e (record { answers = refl; buffers = refl; index = refl })
 
   -- Without room.
   pub holds-room : no_space_lem l ≡ true → HoldsIn m t g l l ix ix (Answer.Refused 1)
-  unfolding holds_refusal given ◌orElse◌
+  unfolding holds_refusal given ◌or_else◌
   holds-room e = refused 1 (rw e)
 
   module _ (room : no_space_lem l ≡ false) where
     -- For a fault of sizes, versions or the model.
     pub holds_files : {k : ℕ} {p : Part} → Blames (files_fault m t) k p → HoldsIn m t g l l ix ix (Answer.Refused k)
-    unfolding holds_refusal given ◌orElse◌
+    unfolding holds_refusal given ◌or_else◌
     holds_files b = rw b.number_is (refused _ (rw (room, b.is)))
 
     module _ (files : files_fault m t ≡ none) where
       -- Without room for the index.
       pub holds-short : no_places_lem m ix ≡ true → HoldsIn m t g l l ix ix (Answer.Refused 1)
-      unfolding holds_refusal given ◌orElse◌
+      unfolding holds_refusal given ◌or_else◌
       holds-short e = refused 1 (rw (room, files, e))
 
       module _ (enough : no_places_lem m ix ≡ false) where
@@ -137,19 +137,19 @@ module _ (m t : List ℕ) (g : ℕ) (l : Lent) (ix : List ℕ) where
         pub holds-steps : {k : ℕ} {p : Part}
             → Blames (steps_fault (length (aims (model_of_lem m))) (length (model_of_lem m).rules) t) k p
             → HoldsIn m t g l l ix ix (Answer.Refused k)
-        unfolding holds_refusal given ◌orElse◌
+        unfolding holds_refusal given ◌or_else◌
         holds-steps b = rw b.number_is (refused _ (rw (room, files, enough, b.is)))
 
         module _ (steps : steps_fault (length (aims (model_of_lem m))) (length (model_of_lem m).rules) t ≡ none) where
           -- For a number that is no fact of the model.
           pub holds-fact : leb (fact_count m) g ≡ true → HoldsIn m t g l l ix ix (Answer.Refused 6)
-          unfolding holds_refusal given ◌orElse◌
+          unfolding holds_refusal given ◌or_else◌
           holds-fact e = refused 6 (rw (room, files, enough, steps, e))
 
           -- Otherwise by the run.
           pub holds-ran : leb (fact_count m) g ≡ false → {after : Lent} {ix' : List ℕ} {r : Answer}
               → Asks m t g l after r → IndexHolds (model_of_lem m).clauses ix ix' → HoldsIn m t g l after ix ix' r
-          unfolding Index holds_refusal given ◌orElse◌
+          unfolding Index holds_refusal given ◌or_else◌
           holds-ran e a holds =
               let none-given : holds_refusal m t g l ix ≡ none = rw (room, files, enough, steps, e) in
               rw none-given (record { answers = a.answers; buffers = a.buffers; index = holds })

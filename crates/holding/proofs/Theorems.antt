@@ -24,7 +24,7 @@ use Rattle.meaning.proofs.Theorems.{closure-is-HC, HC_unique}
 use Rattle.meaning.proofs.Arriving.{number_le, number-rounds, round_closes}
 use Rattle.meaning.proofs.Early.{shown_in, shown_out, rounds-held, rounds-absent}
 use Rattle.facts.proofs.Laws.{determined}
-use Rattle.records.specs.Records.{given, ◌orElse◌}
+use Rattle.records.specs.Records.{given, ◌or_else◌}
 use Rattle.files.specs.Files.{Blamed, model_of_lem, shape_fault, fact_count, files_fault, steps_fault, pair_fault}
 use Rattle.files.specs.Answers.{blamed_number}
 use Rattle.sections.proofs.Fits.{neither, not-given}
@@ -68,7 +68,7 @@ none-refused m t g l ix e =
 -- A round is answered where nothing is refused and no step is blocked.
 round-fine : (o : Option ℕ) (c : Option Condition) {j i k n : ℕ} → Answer.Round k n ≡ answer (stopped o c) j i
     → (o ≡ none) × (c ≡ none) × (k ≡ j) × (n ≡ i)
-unfolding answer stopped ◌orElse◌
+unfolding answer stopped ◌or_else◌
 round-fine none none e = (refl, refl, cc, cc)
 round-fine none (some c) e = let z : ◌≡◌ {A = ℕ} 0 1 = cc in absurd (omega arith)
 round-fine (some x) c e = let z : ◌≡◌ {A = ℕ} 0 1 = cc in absurd (omega arith)
@@ -179,7 +179,7 @@ apart e = let z : ◌≡◌ {A = ℕ} 0 1 = cc in absurd (omega arith)
 
 -- The first of three, either way.
 or_assoc : (a b c : Option ℕ) → (a or_else (b or_else c)) ≡ ((a or_else b) or_else c)
-unfolding ◌orElse◌
+unfolding ◌or_else◌
 or_assoc none b c = refl
 or_assoc (some x) b c = refl
 
@@ -188,7 +188,7 @@ module _ (m t : List ℕ) (g : ℕ) (l : Lent) (ix : List ℕ) where
   pub refuses_as_check : no_places_lem m ix ≡ false
       → holds_refusal m t g l ix
       ≡ (map (λ (v : Verdict). v.number) (refusal m t l) or_else given (leb (fact_count m) g) 6)
-  unfolding holds_refusal refusal pair_fault given ◌orElse◌ refused
+  unfolding holds_refusal refusal pair_fault given ◌or_else◌ refused
   refuses_as_check enough =
       let steps = steps_fault (length (aims (model_of_lem m))) (length (model_of_lem m).rules) t in
       let fact : Option ℕ = given (leb (fact_count m) g) 6 in
@@ -198,14 +198,14 @@ module _ (m t : List ℕ) (g : ℕ) (l : Lent) (ix : List ℕ) where
 
   -- Without it 1 is given where sizes, versions and model are right, whatever the trace and the fact.
   pub short-refused : no_places_lem m ix ≡ true → files_fault m t ≡ none → holds_refusal m t g l ix ≡ some 1
-  unfolding holds_refusal given ◌orElse◌
+  unfolding holds_refusal given ◌or_else◌
   short-refused short files = by-test (no_space_lem l) (λ e. rw e) (λ e. rw (e, files, short))
 
 module _ {m t : List ℕ} {g : ℕ} {b a : Lent} {ix ix' : List ℕ} {k : ℕ}
     (h : HoldsIn m t g b a ix ix' (Answer.Refused k)) where
   -- What is refused before a step is run changes nothing, ..
   pub refused_leaves : {j : ℕ} → holds_refusal m t g b ix ≡ some j → (k ≡ j) × (a ≡ b) × (ix' ≡ ix)
-  unfolding answer stopped ◌orElse◌ Buffers Index
+  unfolding answer stopped ◌or_else◌ Buffers Index
   refused_leaves e =
       let told : Answer.Refused k ≡ Answer.Refused _ = rw e at h.answers in
       (cc, rw e at h.buffers, rw e at h.index)
@@ -214,7 +214,7 @@ module _ {m t : List ℕ} {g : ℕ} {b a : Lent} {ix ix' : List ℕ} {k : ℕ}
   pub blocked_as_checked : holds_refusal m t g b ix ≡ none
       → (k ≡ (ran m t (outcome m t)).number) × Left (model_of_lem m) (outcome m t) b a
       × IndexHolds (model_of_lem m).clauses ix ix'
-  unfolding answer stopped ◌orElse◌ Buffers Index blocked_by ran number_of
+  unfolding answer stopped ◌or_else◌ Buffers Index blocked_by ran number_of
   blocked_as_checked e = go (outcome m t).ending refl
     where
       open_end : blocked_by (outcome m t).ending ≡ none → ⊥

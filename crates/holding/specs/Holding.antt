@@ -9,7 +9,7 @@ use Rattle.meaning.specs.Early.{shown, rounds_for}
 use Rattle.meaning.specs.Run.{Condition, Ending, Outcome}
 use Rattle.meaning.specs.Run.Ending.{attack, blocked, not_met, upheld}
 use Rattle.facts.specs.Facts.{members, Kept}
-use Rattle.records.specs.Records.{given, ◌orElse◌}
+use Rattle.records.specs.Records.{given, ◌or_else◌}
 use Rattle.files.specs.Files.{model_of_lem, fact_count, files_fault, steps_fault}
 use Rattle.files.specs.Answers.{blamed_number}
 use Rattle.closing.specs.Closing.{Written, Index, no_places_lem}
@@ -25,7 +25,7 @@ use Rattle.holding.specs.declared.Answer.{Answer}
 -- step is run. An index with fewer entries than body places is ROOM at the place of wish 5, before the trace's 4, 5 and
 -- 9; FACT is the last.
 unfoldable pub holds_refusal : List ℕ → List ℕ → ℕ → Lent → List ℕ → Option ℕ
-unfolding given ◌orElse◌ no_space_lem files_fault no_places_lem model_of_lem aims blamed_number fact_count
+unfolding given ◌or_else◌ no_space_lem files_fault no_places_lem model_of_lem aims blamed_number fact_count
 holds_refusal m t g l ix =
     given (no_space_lem l) 1
     or_else map blamed_number (files_fault m t)
@@ -42,7 +42,7 @@ blocked_by upheld = none
 
 -- all refusals: where nothing is refused before, BLOCKED, and USED with it
 unfoldable pub stopped : Option ℕ → Option Condition → Option ℕ
-unfolding ◌orElse◌ stop_number
+unfolding ◌or_else◌ stop_number
 stopped refused c = refused or_else map stop_number c
 
 -- ---- the answer

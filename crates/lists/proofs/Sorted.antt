@@ -12,7 +12,7 @@ use borrow.Author.Tests.{ltb-true}
 use lib.Dec.{T, ltb}
 use lib.ListN.{length, get_or}
 use Rattle.sets.specs.Sets.{listed, ◌∈◌}
-use Rattle.sets.proofs.Laws.{passes, is_true, is_false, both, listed-is, getD-in, below_or_from}
+use Rattle.sets.proofs.Laws.{passes, is_true, is_false, both, listed-is, get_or_in, below_or_from}
 use Rattle.records.specs.Words.{ascending}
 
 -- What follows the first is ascending,
@@ -68,7 +68,7 @@ module _ (xs : List ℕ) (n : ℕ) where
 
   -- It is there where a number equals it,
   pub found : (i : ℕ) → i < length xs → get_or xs i 0 ≡ n → listed xs n ≡ true
-  found i h e = is_true ((listed-is xs n).1 (subst (λ x. x ∈ xs) e (getD-in xs i 0 h)))
+  found i h e = is_true ((listed-is xs n).1 (subst (λ x. x ∈ xs) e (get_or_in xs i 0 h)))
 
   -- and not where nothing is left.
   pub not_found : {low high : ℕ} → Between xs n low high → high ≤ low → listed xs n ≡ false

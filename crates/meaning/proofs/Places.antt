@@ -19,7 +19,7 @@ use Rattle.sets.specs.Sets.{Facts, any, listed, ◌∈◌}
 use Rattle.meaning.specs.Model.{Clause}
 use Rattle.meaning.specs.Worklist.{entries_from_lem, index_below_lem, body_places, among, places_in, stored}
 use Rattle.meaning.specs.Working.{clause_at}
-use Rattle.sets.proofs.Laws.{is_true, is_false, passes, fails, by-test, same_test, listed-is, below_or_from, getD-in}
+use Rattle.sets.proofs.Laws.{is_true, is_false, passes, fails, by-test, same_test, listed-is, below_or_from, get_or_in}
 use Rattle.meaning.proofs.Counting.{different_le_length, different-is}
 
 -- A list repeats nothing exactly if its head stands nowhere after it and the rest repeats nothing.
@@ -222,7 +222,7 @@ entry_in cs f k m =
 
 -- The clause of a number is one of the clauses.
 pub clause_in : (cs : List Clause) (k : ℕ) → k < length cs → clause_at cs k ∈ cs
-clause_in cs k = getD-in cs k _
+clause_in cs k = get_or_in cs k _
 
 -- Every clause has a number.
 pub clause-at : (cs : List Clause) (c : Clause) → c ∈ cs → (k : ℕ) × (k < length cs) × (clause_at cs k ≡ c)

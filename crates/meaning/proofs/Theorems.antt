@@ -28,7 +28,7 @@ use Rattle.meaning.specs.Promises.{IsIndex, Pastless}
 use Rattle.meaning.specs.Promises.EndsSo.{attack, blocked, not_met}
 use Rattle.meaning.specs.Promises.FirstUnmet.{absent, present, in_use_lem}
 use Rattle.sets.proofs.Laws.{passes, fails, by-test, both, every_in, every_intro, one_number}
-use Rattle.sets.proofs.Laws.{below_or_from, getD-in, listed-is}
+use Rattle.sets.proofs.Laws.{below_or_from, get_or_in, listed-is}
 use Rattle.meaning.proofs.Closing
 use Rattle.meaning.proofs.Histories
 use Rattle.meaning.proofs.Indexes
@@ -356,7 +356,7 @@ module _ {m : Model} (w : Nameless m) where
   unfolding rule_of
   none_made k n i =
       elim (below_or_from k (length m.rules)) [
-        | inl l ↦ Memᴰ.not-nil (rw (w.rules (rule_of m k) (getD-in m.rules k _ l)) at i)
+        | inl l ↦ Memᴰ.not-nil (rw (w.rules (rule_of m k) (get_or_in m.rules k _ l)) at i)
         | inr l ↦ Memᴰ.not-nil (rw (get_or-eq_default m.rules _ l) at i)
       ]
 

@@ -14,7 +14,7 @@ use Rattle.sets.specs.Sets.{any}
 use Rattle.sets.proofs.Laws.{by-test}
 use Rattle.records.specs.Words.{word, odd, ascending}
 use Rattle.records.specs.Codes.{is_formula_lem}
-use Rattle.records.specs.Records.{given, ◌orElse◌, record_of_lem, name_row, rows, list_count_lem, cut_lists, cut, lists_of}
+use Rattle.records.specs.Records.{given, ◌or_else◌, record_of_lem, name_row, rows, list_count_lem, cut_lists, cut, lists_of}
 use Rattle.records.specs.Records.{most, over_long, wrong_fact, wrong_name, any_list}
 use Rattle.records.specs.Records.{whole, codes_in, judge_lists, judge_formula, judge}
 use Rattle.records.specs.Answers.{code}
@@ -135,7 +135,7 @@ refused (some j) k e h = ap {B = Option ℕ} some (sym e)
 clear : (p q u v : ℕ) (first second third fourth : Bool)
     → 0 ≡ code (given first (suc p) or_else given second (suc q) or_else given third (suc u) or_else given fourth (suc v))
     → (first ≡ false) × (second ≡ false) × (third ≡ false) × (fourth ≡ false)
-unfolding code given ◌orElse◌
+unfolding code given ◌or_else◌
 clear p q u v true second third fourth e = absurd (omega arith)
 clear p q u v false true third fourth e = absurd (omega arith)
 clear p q u v false false true fourth e = absurd (omega arith)
@@ -215,7 +215,7 @@ module _ (F n : ℕ) (r : List ℕ) where
 
   -- has no number,
   pub formula-passed : 0 ≡ code (judge_formula F n r) → judge_formula F n r ≡ none
-  unfolding judge_formula given ◌orElse◌
+  unfolding judge_formula given ◌or_else◌
   formula-passed e =
       let f = formed e in
       rw (f.fits, f.even, f.counted, f.short, f.facts, f.formula)

@@ -3,7 +3,7 @@ use Rattle.std.specs.Prelude.{ℕ, Bool, false, not, ◌&&◌, ◌||◌, List, l
 use Rattle.std.proofs.Math.Option.{Option, none, some}
 use Rattle.sets.specs.Sets.{any}
 use Rattle.records.specs.Words.{ascending}
-use Rattle.records.specs.Records.{given, ◌orElse◌, most, over_long, wrong_fact, wrong_name, any_list}
+use Rattle.records.specs.Records.{given, ◌or_else◌, most, over_long, wrong_fact, wrong_name, any_list}
 use Rattle.records.specs.declared.Kind.{Kind}
 use Rattle.records.specs.declared.Marks.{Marks}
 use Rattle.records.specs.declared.Row.{Row}
@@ -30,7 +30,7 @@ marked_by row l m = marked row.names m (over_long row l) (any (leb row.limit) l)
 
 -- the number for some marks: 5 before 6 before 12 before 7
 unfoldable pub picked : Marks → Option ℕ
-unfolding given ◌orElse◌
+unfolding given ◌or_else◌
 picked m = given m.count 5 or_else given m.fact 6 or_else given m.name 12 or_else given m.order 7
 
 -- the number for a record with these lists, after some marks: 4 where there are none

@@ -11,7 +11,7 @@ use Rattle.records.specs.declared.Kind.{Kind}
 use Rattle.records.specs.declared.Kind.TheVariants.{Clause, Rule, Maker, Goal, Formula}
 use Rattle.records.specs.declared.Row.{Row}
 
-infixr 25 ◌orElse◌
+infixr 25 ◌or_else◌
 -- ---- the first of several faults
 
 -- x where the test holds
@@ -20,7 +20,7 @@ given true x = some x
 given false x = none
 
 -- the first where there is one, otherwise the second
-unfoldable pub ◌orElse◌ {ℓ} : {A : Type ℓ} → Option A → Option A → Option A
+unfoldable pub ◌or_else◌ {ℓ} : {A : Type ℓ} → Option A → Option A → Option A
 unfolding first_of
 x or_else y = first_of x y
 
@@ -153,7 +153,7 @@ any_list fails (row ∷ others) (l ∷ lists) = fails row l || any_list fails ot
 -- then is 5."; "a name over 1,023 is 12 BADNAME, right after FACT within a record" (document 02, wish 9): record n of
 -- its section, in a model of F facts
 unfoldable pub judge_lists : Kind → ℕ → ℕ → List ℕ → Option ℕ
-unfolding lists_of given ◌orElse◌ most rows any_list any ascending
+unfolding lists_of given ◌or_else◌ most rows any_list any ascending
 judge_lists K F n r =
     elim (lists_of K r) [
       | none ↦ some 4
@@ -172,7 +172,7 @@ codes_in r = words (drop 2 r)
 -- "an odd record is SHAPE, a formula or code too many COUNT, a fact code of F or more FACT; last within a record, 17
 -- FORMULA" (document 02, wish 11): "at most 64 formulas, one record each, at most 255 codes", "below 32,768 a fact"
 unfoldable pub judge_formula : ℕ → ℕ → List ℕ → Option ℕ
-unfolding whole odd given ◌orElse◌ most codes_in any
+unfolding whole odd given ◌or_else◌ most codes_in any
 judge_formula F n r =
     given (not (whole r) || odd (drop 2 r)) 4
     or_else given (leb (most Formula) n || ltb 255 (length (codes_in r))) 5
@@ -191,7 +191,7 @@ judge Formula = judge_formula
 -- "The initial facts, each clause body and each list are strictly ascending.": bare numbers, names or facts, which fill
 -- the bytes and are below a limit, however many
 unfoldable pub bare : Bool → ℕ → List ℕ → Option ℕ
-unfolding given ◌orElse◌ odd any words ascending
+unfolding given ◌or_else◌ odd any words ascending
 bare names limit bytes =
     given (odd bytes) 4
     or_else given (not names && any (leb limit) (words bytes)) 6

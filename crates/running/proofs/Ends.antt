@@ -8,7 +8,7 @@ use mathlib.Core.Option.{none, some}
 use native.Mathlib.Omega.{arith}
 use lib.ListN.{length, get_or, drop}
 use Rattle.sets.specs.Sets.{Facts, size, ◌∈◌}
-use Rattle.sets.proofs.Laws.{getD-in, below_or_from}
+use Rattle.sets.proofs.Laws.{get_or_in, below_or_from}
 use Rattle.sets.proofs.Size.{size_below}
 use Rattle.meaning.specs.Past.{History}
 use Rattle.meaning.specs.Model.{Goal, Model, Aim, aims, aim_of}
@@ -19,7 +19,7 @@ use Rattle.meaning.specs.Run.{outcome_of, run}
 use Rattle.meaning.specs.Run.Condition.{positive, negative, unused}
 use Rattle.meaning.specs.Run.Ending.{attack, blocked, not_met}
 use Rattle.meaning.specs.Promises.{FirstUnmet, absent, present, in_use_lem, GoalUnmet, lacks, still_true}
-use Rattle.meaning.specs.Promises.EndsSo.{attack as so-attack, blocked as so-blocked, not_met as so-notMet}
+use Rattle.meaning.specs.Promises.EndsSo.{attack as so-attack, blocked as so-blocked, not_met as so_not_met}
 use Rattle.meaning.proofs.Theorems.{run_is}
 use Rattle.meaning.proofs.Runs.{Below, run-below, state-at}
 use Rattle.facts.specs.Facts.{members, Kept}
@@ -223,7 +223,7 @@ goal_of_lem m {g} G there is =
     (λ l.
     let at = state-at (model_of_lem m) g (record { P = []; N = [] }) l in
     let same : get_or (model_of_lem m).goals g (record { P = []; N = [] }) ≡ G = cc in
-    subst (λ (x : Goal). x ∈ (model_of_lem m).goals) same (getD-in (model_of_lem m).goals g _ l))
+    subst (λ (x : Goal). x ∈ (model_of_lem m).goals) same (get_or_in (model_of_lem m).goals g _ l))
     (λ l. let e = formula_in_lem m g l there in let z : ◌≡◌ {A = ℕ} 0 1 = cc in absurd (omega arith))
     (below_or_from g (length (model_of_lem m).goals))
 
@@ -241,9 +241,9 @@ ending-known m t fine c told =
       | so-blocked d e h X hc u ↦
           let r =
           rule-below m shape _
-          (getD-in M.rules _ (record { P = []; N = []; A = []; names = [] }) (pair_step-known m t fine _ h)) in
+          (get_or_in M.rules _ (record { P = []; N = []; A = []; names = [] }) (pair_step-known m t fine _ h)) in
           rw (← of_blocked e told) (first-known u (few _ r.0) (few _ r.1))
-      | so-notMet x e h X hc u ↦
+      | so_not_met x e h X hc u ↦
           let (G, is, first) = of_goal u (subst (λ (y : Ending). EndsWith y c) e told) in
           let g = goal-below m shape G (goal_of_lem m G (pair_goal-known m t fine) is) in
           first-known first (few _ g.0) (few _ g.1)

@@ -8,7 +8,7 @@ use mathlib.Core.Option.{Option, none, some}
 use native.Mathlib.Omega.{arith}
 use lib.Dec.{ltb}
 use lib.ListN.{length, take, get_or}
-use Rattle.records.specs.Records.{given, ◌orElse◌}
+use Rattle.records.specs.Records.{given, ◌or_else◌}
 use Rattle.records.specs.declared.Fault.{Fault}
 use Rattle.sections.specs.Sections.{too_long, wrong_version}
 use Rattle.sections.specs.Answers.{fault_number, passed}
@@ -35,12 +35,12 @@ passed-fault (some g) end count f is told = cc
 module _ {ℓ} {A : Type ℓ} (x y : Option A) where
   -- A first fault is the first of two.
   pub or_first : (a : A) → x ≡ some a → (x or_else y) ≡ some a
-  unfolding ◌orElse◌
+  unfolding ◌or_else◌
   or_first a e = rw e
 
   -- Without it the second is.
   pub or_next : x ≡ none → (x or_else y) ≡ y
-  unfolding ◌orElse◌
+  unfolding ◌or_else◌
   or_next e = rw e
 
 -- ---- a file's size and version
@@ -54,7 +54,7 @@ pub record Told (x y : Option Fault) (f g : Fault) (number : ℕ) : Type 0 where
 
 told : (f g : Fault) → f.number ≡ 2 → g.number ≡ 3 → (a b : Bool)
     → Told (given a f) (given b g) f g (fault_number (given a f or_else given b g))
-unfolding given ◌orElse◌ fault_number
+unfolding given ◌or_else◌ fault_number
 told f g is-2 is-3 true b =
     record {
       two = λ h. refl;

@@ -7,7 +7,7 @@ use mathlib.Core.Option.{Option, none, some, map, some-ne-none}
 use native.Mathlib.Omega.{arith}
 use lib.ListN.{length, take, drop, length-drop}
 use borrow.Author.Tests.{leb-true, ltb-false}
-use Rattle.records.specs.Records.{given, ◌orElse◌}
+use Rattle.records.specs.Records.{given, ◌or_else◌}
 use Rattle.records.specs.declared.Fault.{Fault}
 use Rattle.sections.specs.Sections.{long, end_at, fits, payload, rest_fault_lem, moved, in_section, left_over}
 
@@ -15,7 +15,7 @@ use Rattle.sections.specs.Sections.{long, end_at, fits, payload, rest_fault_lem,
 
 -- Where there is no first of two faults, neither is there.
 pub neither {ℓ} : {A : Type ℓ} (x y : Option A) → (x or_else y) ≡ none → (x ≡ none) × (y ≡ none)
-unfolding ◌orElse◌
+unfolding ◌or_else◌
 neither none y e = (refl, e)
 neither (some a) y e = absurd (some-ne-none a e)
 

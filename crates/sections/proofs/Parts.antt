@@ -12,7 +12,7 @@ use lib.Seq.{get_or-drop, drop-drop, length-take-le}
 use borrow.Author.Tests.{le-leb, lt-leb, ne_eqb}
 use Rattle.sets.specs.Sets.{any}
 use Rattle.records.specs.Words.{word, words, odd, ascending}
-use Rattle.records.specs.Records.{given, ◌orElse◌, records, bare, judge, first_from, first_fault_lem, place_of}
+use Rattle.records.specs.Records.{given, ◌or_else◌, records, bare, judge, first_from, first_fault_lem, place_of}
 use Rattle.records.specs.declared.Fault.{Fault}
 use Rattle.records.specs.declared.Kind.TheVariants as kind
 use Rattle.records.specs.Answers.{code}
@@ -50,7 +50,7 @@ given_counted true k h e = absurd (omega arith)
 given_counted false k h e = refl
 
 either-counted : (x y : Option ℕ) → Counted x → Counted y → Counted (x or_else y)
-unfolding ◌orElse◌ code
+unfolding ◌or_else◌ code
 either-counted none y cx cy e = cy e
 either-counted (some k) y cx cy e = cx e
 

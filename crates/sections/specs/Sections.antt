@@ -3,7 +3,7 @@
 use Rattle.std.specs.Prelude.{ℕ, zero, suc, ◌+◌, ◌-◌, ◌*◌, Bool, true, false, not, ◌||◌, cond, List, leb, ltb, eqb, length, take, drop, get_or}
 use Rattle.std.proofs.Math.Option.{Option, none, some, map}
 use Rattle.records.specs.Words.{word}
-use Rattle.records.specs.Records.{given, ◌orElse◌, records, bare, judge, first_fault_lem}
+use Rattle.records.specs.Records.{given, ◌or_else◌, records, bare, judge, first_fault_lem}
 use Rattle.records.specs.declared.Fault.{Fault}
 use Rattle.records.specs.declared.Kind.{Kind}
 use Rattle.records.specs.declared.Kind.TheVariants as kind
@@ -65,7 +65,7 @@ all_of (some k) bytes = some (record { number = k; start = 0; size = length byte
 
 -- "sizes: exactly 2 bytes, F" and "F 0 to 4,096"
 unfoldable pub sizes : List ℕ → Option ℕ
-unfolding given ◌orElse◌ word
+unfolding given ◌or_else◌ word
 sizes bytes = given (not (eqb (length bytes) 2)) 4 or_else given (ltb 4096 (word bytes)) 5
 
 -- "Model version 3 is version 2 with .. a fourth list in each rule, the names it makes" (document 02, wish 9): what the

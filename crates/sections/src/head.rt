@@ -1,6 +1,6 @@
 // A file's size and version, which come before anything in it.
 ghost use Rattle.std.specs.Prelude.{◌≡◌, length, take, get_or};
-ghost use Rattle.records.specs.Records.{◌orElse◌};
+ghost use Rattle.records.specs.Records.{◌or_else◌};
 ghost use Rattle.sections.specs.Sections.{too_long, wrong_version};
 ghost use Rattle.sections.specs.Answers.{fault_number};
 

@@ -78,6 +78,7 @@ module _ {ℓ} {A : Type ℓ} (p : A → Bool) where
   -- Where every entry of a list passes, each one does.
   pub every_in : (xs : List A) → T (every p xs) → (x : A) → x ∈ xs → T (p x)
   unfolding every
+  every_in [] t x m = elim m [ ]
   every_in (y ∷ ys) t x (Memᴰ.head e) = rw e ((both (p y) (every p ys)).0 t).0
   every_in (y ∷ ys) t x (Memᴰ.tail m) = every_in ys ((both (p y) (every p ys)).0 t).1 x m
 
@@ -102,6 +103,7 @@ module _ {ℓ} {A : Type ℓ} (p : A → Bool) where
   -- Where some entry of a list passes, there is one that does.
   pub any_in : (xs : List A) → T (any p xs) → (x : A) × (x ∈ xs) × T (p x)
   unfolding any
+  any_in [] t = absurd t
   any_in (y ∷ ys) t =
       elim ((either (p y) (any p ys)).0 t)
       [ inl h ↦ (y, Memᴰ.head refl, h) | inr h ↦ let (x, m, q) = any_in ys h in (x, Memᴰ.tail m, q) ]
@@ -109,6 +111,7 @@ module _ {ℓ} {A : Type ℓ} (p : A → Bool) where
   -- Where an entry of a list passes, some entry does.
   pub any_intro : (xs : List A) (x : A) → x ∈ xs → T (p x) → T (any p xs)
   unfolding any
+  any_intro [] x m h = elim m [ ]
   any_intro (y ∷ ys) x (Memᴰ.head e) h = (either (p y) (any p ys)).1 (inl (rw e at h))
   any_intro (y ∷ ys) x (Memᴰ.tail m) h = (either (p y) (any p ys)).1 (inr (any_intro ys x m h))
 
@@ -166,7 +169,7 @@ pub one_number : (P : ℕ → Type 0) → ((a b : ℕ) → P a → P b → a < b
 one_number P h {a} {b} x y = let l = h a b x y in let g = h b a y x in omega arith
 
 -- The entry at an index of a list is one of its entries.
-pub getD-in {ℓ} : {A : Type ℓ} (xs : List A) (i : ℕ) (d : A) → i < length xs → get_or xs i d ∈ xs
-getD-in [] i d h = absurd (not-suc-le-zero h)
-getD-in (x ∷ xs) zero d h = Memᴰ.head refl
-getD-in (x ∷ xs) (suc i) d h = Memᴰ.tail (getD-in xs i d (le_of_suc-le-suc h))
+pub get_or_in {ℓ} : {A : Type ℓ} (xs : List A) (i : ℕ) (d : A) → i < length xs → get_or xs i d ∈ xs
+get_or_in [] i d h = absurd (not-suc-le-zero h)
+get_or_in (x ∷ xs) zero d h = Memᴰ.head refl
+get_or_in (x ∷ xs) (suc i) d h = Memᴰ.tail (get_or_in xs i d (le_of_suc-le-suc h))

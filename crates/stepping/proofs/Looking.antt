@@ -9,13 +9,13 @@ use mathlib.Core.Option.{none, some}
 use native.Mathlib.Omega.{arith}
 use lib.ListN.{length, get_or, drop, length-map, get_or-map}
 use Rattle.sets.specs.Sets.{Facts}
-use Rattle.sets.proofs.Laws.{below_or_from, by-test, getD-in}
+use Rattle.sets.proofs.Laws.{below_or_from, by-test, get_or_in}
 use Rattle.meaning.specs.Run.{Condition, met, conditions, find, unmet}
 use Rattle.meaning.specs.Run.Condition.{positive, negative, unused}
 use Rattle.meaning.proofs.Runs.{find-here, find-later, find-end, length-conditions}
 use Rattle.meaning.proofs.Runs.{positive-at, negative-at, unused-at}
 use Rattle.records.specs.Words.{word, words}
-use Rattle.records.specs.Records.{◌orElse◌}
+use Rattle.records.specs.Records.{◌or_else◌}
 use Rattle.records.proofs.Words.{words-index, length-words}
 use Rattle.files.specs.Known.{Known}
 use Rattle.stepping.specs.Conditions.{KnownIn, of_kind_lem, KnownList}
@@ -67,13 +67,13 @@ module _ (p n names : List ℕ) where
         near : i < length p / 2 → KnownIn (get_or asks i (positive 0))
         near l =
             let there : i < length (words p) = rw length-words l in
-            rw (asks-positive l, ← words-index p i there) (known-p.below _ (getD-in (words p) i 0 there))
+            rw (asks-positive l, ← words-index p i there) (known-p.below _ (get_or_in (words p) i 0 there))
 
         far : length p / 2 ≤ i → i < length p / 2 + length n / 2 → KnownIn (get_or asks i (positive 0))
         far l m =
             let there : i - length p / 2 < length (words n) = rw length-words (omega arith) in
             rw (asks-negative l m, ← words-index n (i - length p / 2) there)
-            (known-n.below _ (getD-in (words n) _ 0 there))
+            (known-n.below _ (get_or_in (words n) _ 0 there))
 
         last : length p / 2 + length n / 2 ≤ i → KnownIn (get_or asks i (positive 0))
         last l = rw (asks-unused l h) tt
@@ -97,7 +97,7 @@ module _ (k : kind.the_data) (bytes : List ℕ) where
 
     pub list_known : KnownList k bytes → KnownIn (of_kind_lem k (word (drop (2 * i) bytes)))
     unfolding KnownList
-    list_known known = rw (← words-index bytes i there) (known _ (getD-in (words bytes) i 0 there))
+    list_known known = rw (← words-index bytes i there) (known _ (get_or_in (words bytes) i 0 there))
 
 -- ---- the search
 
@@ -133,7 +133,7 @@ module _ (cs : List Condition) where
 -- The first unmet condition of two lists is the first list's, if it has one, otherwise the second's.
 unmet_append : (X used : Facts) (cs ds : List Condition)
     → unmet X used (cs ++ ds) ≡ (unmet X used cs or_else unmet X used ds)
-unfolding unmet find ◌orElse◌
+unfolding unmet find ◌or_else◌
 unmet_append X used [] ds = refl
 unmet_append X used (c ∷ cs) ds =
     by-test (met X used c) (λ e. rw (e, find) (unmet_append X used cs ds)) (λ e. rw (e, find))

@@ -12,7 +12,7 @@ use lib.ListN.{length, get_or, set, take, drop, length-set, drop_of_length-le, g
 use lib.Seq.{take-set-le, take-suc-set, get_or-set_same, get_or-set_other, get_or-take, drop-cons, length-take-le}
 use borrow.Author.Tests.{lt-ltb, le-ltb, eq-eqb, ne_eqb}
 use Rattle.sets.specs.Sets.{Facts}
-use Rattle.sets.proofs.Laws.{both, getD-in, below_or_from}
+use Rattle.sets.proofs.Laws.{both, get_or_in, below_or_from}
 use Rattle.meaning.specs.Model.{Clause}
 use Rattle.meaning.specs.Worklist.{Work, stored, arrive, unasked, begun}
 use Rattle.meaning.specs.Working.{Known, clause_at, Opening}
@@ -142,7 +142,7 @@ module _ {cs : List Clause} {table : List ℕ} (known : Known cs (state_in table
       in
       rw is at
       ((stored_is 4096 (state_in table) (get_or (stored 4096 (state_in table)) i 0)).0
-      (getD-in (stored 4096 (state_in table)) i 0 (omega arith)))
+      (get_or_in (stored 4096 (state_in table)) i 0 (omega arith)))
 
   numbers : (f : ℕ) → number_in table f ≡ cond (state_in table f) 0 65535
   unfolding number_in state_in

@@ -24,12 +24,12 @@ use Rattle.firing.proofs.list_rules.Statement.{statement}
 use Rattle.firing.proofs.list_rules.Tie as tie
 
 -- the rules from a place of their section on
-abbrev rulesFrom : List ℕ → List ℕ → ℕ → List Rule
-rulesFrom model rules at = map (rule_in (get_or model 0 0)) (records (drop at rules))
+abbrev rules_from : List ℕ → List ℕ → ℕ → List Rule
+rules_from model rules at = map (rule_in (get_or model 0 0)) (records (drop at rules))
 
 abbrev invariant-loop : tie.invariant-loop
 invariant-loop model table names list₀ rules at₀ k₀ n₀ list at k n =
-    Listing (fires_by (numbered table) (names_in names)) (model_of_lem model).rules (rulesFrom model rules at) k n list₀ list
+    Listing (fires_by (numbered table) (names_in names)) (model_of_lem model).rules (rules_from model rules at) k n list₀ list
     × ((r : List ℕ) → r ∈ records (drop at rules) → r ∈ records (section_of model Rules))
 
 abbrev decreases-loop : tie.decreases-loop
@@ -72,7 +72,7 @@ module _ (c : tie.After-record-at invariant-loop decreases-loop) where
   there = loop.loop.inv.1 rule (rw next (Memᴰ.head refl))
 
   listing : Listing (fires_by (numbered entry.args.table.now) (names_in entry.args.names.now))
-      (model_of_lem model).rules (rule_in (get_or model 0 0) rule ∷ rulesFrom model bytes (at + length rule))
+      (model_of_lem model).rules (rule_in (get_or model 0 0) rule ∷ rules_from model bytes (at + length rule))
       loop.loop.k loop.loop.n entry.args.list.now loop.loop.list
   listing = rw next at loop.loop.inv.0
 

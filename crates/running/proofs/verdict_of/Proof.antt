@@ -26,9 +26,9 @@ module _ (s : tie.Start) (c : condition.the_data) where
   unfolding ending_of
   known-blocked told = ending-known _ _ s.requires.0 (condition_of c) (inl (sym s.requires.1.ending ∙ ap ending_of told))
 
-  known-notMet : s.args.ended.ending ≡ ends.NotMet c → KnownIn (condition_of c)
+  known_not_met : s.args.ended.ending ≡ ends.NotMet c → KnownIn (condition_of c)
   unfolding ending_of
-  known-notMet told = ending-known _ _ s.pre.0 (condition_of c) (inr (sym s.pre.1.ending ∙ ap ending_of told))
+  known_not_met told = ending-known _ _ s.pre.0 (condition_of c) (inr (sym s.pre.1.ending ∙ ap ending_of told))
 
 -- a trace that is judged names a goal that the model has
 named : (m t : List ℕ) → pair_fault m t ≡ none → {g : ℕ} → g ≡ (trace_of t).goal → g < length (aims (model_of_lem m))
@@ -78,7 +78,7 @@ round-of-requires-2 : tie.Need-round-of-requires-2
 round-of-requires-2 c κs =
     let told = c.before.before.before in
     let s = told.before.before.before.before.before in
-    (known-notMet s _ told.ending2.given.1, s.requires.2.long)
+    (known_not_met s _ told.ending2.given.1, s.requires.2.long)
 
 goal-of-requires : tie.Need-goal-of-requires
 goal-of-requires c κs =
@@ -123,7 +123,7 @@ returns-3 c =
     let r = g.before in
     let told = r.before.before.before.before in
     let s = told.before.before.before.before.before in
-    let known = known-notMet s _ told.ending2.given.1 in
+    let known = known_not_met s _ told.ending2.given.1 in
     ran-not_met _ _ _ _ s.requires.1 _ r.before.before.fact-of2.ensures r.before.kind-of2.ensures
     (r.round-of2.ensures ∙ round_is _ _ s.requires.2 _ known) told.ending2.given.1
     (c.goal-part.ensures ∙ ap (goal_part_lem s.args.model.now) g.goal_of_lem.ensures)

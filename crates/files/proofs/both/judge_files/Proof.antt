@@ -1,7 +1,7 @@
 -- `both::judge_files` meets its contract: the heads' fault, then the model's.
 use mathlib.Core.Path.{◌≡◌}
 use mathlib.Core.Option.{none}
-use Rattle.records.specs.Records.{◌orElse◌}
+use Rattle.records.specs.Records.{◌or_else◌}
 use Rattle.sections.proofs.Answers.{or_first}
 use Rattle.files.specs.Files.{heads_fault, files_fault}
 use Rattle.files.specs.Answers.{paired, blamed_number, blamed_part}
@@ -51,7 +51,7 @@ returns c =
     })
 
 returns-2 : tie.Need-returns-2
-unfolding files_fault ◌orElse◌ paired blamed_number blamed_part
+unfolding files_fault ◌or_else◌ paired blamed_number blamed_part
 returns-2 c =
     let fault = c.before.before in
     let asked = fault.before.before in
@@ -62,7 +62,7 @@ returns-2 c =
     )
 
 returns-3 : tie.Need-returns-3
-unfolding files_fault ◌orElse◌ paired
+unfolding files_fault ◌or_else◌ paired
 returns-3 c =
     let asked = c.before.before.before in
     let (fine, counts) = judged-fine _ _ _ asked.judge-shape.ensures c.before.counts.given.1 in

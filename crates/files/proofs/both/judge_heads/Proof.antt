@@ -3,7 +3,7 @@ use Prim.Native.Nat.{ℕ}
 use mathlib.Core.Path.{◌≡◌}
 use mathlib.Core.List.{List}
 use mathlib.Core.Option.{none}
-use Rattle.records.specs.Records.{◌orElse◌}
+use Rattle.records.specs.Records.{◌or_else◌}
 use Rattle.sections.specs.Sections.{too_long, wrong_version}
 use Rattle.sections.proofs.Answers.{Head, head-told}
 use Rattle.files.specs.Files.{heads_fault}
@@ -50,7 +50,7 @@ blame-requires : tie.Need-blame-requires
 blame-requires c κs = search rules
 
 returns : tie.Need-returns
-unfolding heads_fault ◌orElse◌ headed blamed_number blamed_part
+unfolding heads_fault ◌or_else◌ headed blamed_number blamed_part
 returns c =
     let l = c.before in
     rw (c.blame.ensures, l.long-fault.ensures, (model-head l.before.before).two l.before.if1.true)
@@ -62,7 +62,7 @@ blame-requires-2 : tie.Need-blame-requires-2
 blame-requires-2 c κs = search rules
 
 returns-2 : tie.Need-returns-2
-unfolding heads_fault ◌orElse◌ headed blamed_number blamed_part
+unfolding heads_fault ◌or_else◌ headed blamed_number blamed_part
 returns-2 c =
     let l = c.before in
     let e = l.before.before in
@@ -80,7 +80,7 @@ blame-requires-3 : tie.Need-blame-requires-3
 blame-requires-3 c κs = search rules
 
 returns-3 : tie.Need-returns-3
-unfolding heads_fault ◌orElse◌ headed blamed_number blamed_part
+unfolding heads_fault ◌or_else◌ headed blamed_number blamed_part
 returns-3 c =
     let l = c.before in
     let e = l.before.before in
@@ -99,7 +99,7 @@ blame-requires-4 : tie.Need-blame-requires-4
 blame-requires-4 c κs = search rules
 
 returns-4 : tie.Need-returns-4
-unfolding heads_fault ◌orElse◌ headed blamed_number blamed_part
+unfolding heads_fault ◌or_else◌ headed blamed_number blamed_part
 returns-4 c =
     let l = c.before in
     let e = l.before.before in
@@ -114,7 +114,7 @@ returns-4 c =
     )
 
 returns-5 : tie.Need-returns-5
-unfolding heads_fault ◌orElse◌ headed blamed_number blamed_part
+unfolding heads_fault ◌or_else◌ headed blamed_number blamed_part
 returns-5 c =
     let e = c.before.before in
     rw (

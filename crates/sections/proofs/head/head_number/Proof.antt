@@ -1,6 +1,6 @@
 -- `sections::head::head_number` meets its contract: its tests are those of the two faults.
 use borrow.Author.Tests.{lt-ltb, le-ltb}
-use Rattle.records.specs.Records.{◌orElse◌}
+use Rattle.records.specs.Records.{◌or_else◌}
 use Rattle.sections.specs.Sections.{too_long, wrong_version}
 use Rattle.sections.specs.Answers.{fault_number}
 use borrow.Author.Rules.{rules}
@@ -8,20 +8,20 @@ use Rattle.sections.proofs.head.head_number.Statement.{statement}
 use Rattle.sections.proofs.head.head_number.Tie as tie
 
 returns : tie.Need-returns
-unfolding ◌orElse◌ fault_number too_long
+unfolding ◌or_else◌ fault_number too_long
 returns c = rw (lt-ltb _ _ c.if1.true)
 
 version-of-requires : tie.Need-version-of-requires
 version-of-requires c κs = search rules
 
 returns-2 : tie.Need-returns-2
-unfolding ◌orElse◌ fault_number too_long wrong_version
+unfolding ◌or_else◌ fault_number too_long wrong_version
 returns-2 c =
     let told = c.before in
     rw (le-ltb _ _ told.before.if1.false, ← told.version_of.ensures, lt-ltb _ _ c.if2.true)
 
 returns-3 : tie.Need-returns-3
-unfolding ◌orElse◌ fault_number too_long wrong_version
+unfolding ◌or_else◌ fault_number too_long wrong_version
 returns-3 c =
     let told = c.before.before in
     rw (
@@ -32,7 +32,7 @@ returns-3 c =
     )
 
 returns-4 : tie.Need-returns-4
-unfolding ◌orElse◌ fault_number too_long wrong_version
+unfolding ◌or_else◌ fault_number too_long wrong_version
 returns-4 c =
     let told = c.before.before in
     rw (

@@ -4,7 +4,7 @@ use mathlib.Core.List.{map}
 use mathlib.Core.Option.{none}
 use Rattle.meaning.specs.Run.{unmet}
 use Rattle.records.specs.Words.{words}
-use Rattle.records.specs.Records.{◌orElse◌}
+use Rattle.records.specs.Records.{◌or_else◌}
 use Rattle.closing.specs.Closing.{numbered}
 use Rattle.stepping.specs.Conditions.{names_in, unmet_in, of_kind_lem, KnownList}
 use Rattle.stepping.specs.declared.conditions.Kind.TheVariants as kind
@@ -46,13 +46,13 @@ unfolding KnownList
 first-of-requires-3 c κs = search rules
 
 returns : tie.Need-returns
-unfolding unmet_in ◌orElse◌
+unfolding unmet_in ◌or_else◌
 returns c =
     let told = c.before in
     sym (unmet-lists _ _ _ _ _ ∙ rw (sym told.before.before.first_of.ensures ∙ ap unmet_in told.c.given.1))
 
 returns-2 : tie.Need-returns-2
-unfolding unmet_in ◌orElse◌
+unfolding unmet_in ◌or_else◌
 returns-2 c =
     let told = c.before in
     let found = told.before.before in
@@ -60,7 +60,7 @@ returns-2 c =
     ∙ rw (none-P found.before, sym found.first-of2.ensures ∙ ap unmet_in told.c2.given.1))
 
 returns-3 : tie.Need-returns-3
-unfolding unmet_in ◌orElse◌
+unfolding unmet_in ◌or_else◌
 returns-3 c =
     let told = c.before in
     let found = told.before.before in

@@ -6,14 +6,14 @@ use Rattle.facts.proofs.Laws.{added_set, added_missing}
 use Rattle.facts.proofs.add.Statement.{statement}
 use Rattle.facts.proofs.add.Tie as tie
 
-returns : tie.Need-returns
+returns : tie.Need-returns-then-i-held
 returns c =
     let args = c.before.before.before.before.before.args in
     rw c.mask.ensures
     (added_set args.width args.set.now args.n (omega arith)
-    (omega (arith, c.before.slice-known2.given (args.n / 8))))
+    (omega (arith, c.before.slice_known-then-i-held-1.given (args.n / 8))))
 
-returns-2 : tie.Need-returns-2
+returns-2 : tie.Need-returns-else-i-held
 returns-2 c =
     let args = c.before.before.before.args in
     added_missing args.width args.set.now args.n (omega arith)

@@ -13,29 +13,29 @@ use Rattle.facts.proofs.Laws.{missing, none_from, some-from}
 use Rattle.facts.proofs.any_from.Statement.{statement}
 use Rattle.facts.proofs.any_from.Tie as tie
 
-abbrev invariant-loop : tie.invariant-loop
+abbrev invariant-loop : tie.invariant-loop-i
 invariant-loop set width from end i₀ skip₀ i skip =
     (skip < 8) × (from ≤ i * 8 + skip) × ((g : ℕ) → from ≤ g → g < i * 8 + skip → within width set g ≡ false)
 
-abbrev decreases-loop : tie.decreases-loop
+abbrev decreases-loop : tie.decreases-loop-i
 decreases-loop set width from end i₀ skip₀ i skip = end - i
 
-loop-holds : tie.Need-loop-init invariant-loop decreases-loop
+loop-holds : tie.Need-loop-i-init invariant-loop decreases-loop
 loop-holds c = (omega arith, omega arith, λ g p q. absurd (omega arith))
 
-returns : tie.Need-returns invariant-loop decreases-loop
+returns : tie.Need-returns-then-rest-gt0 invariant-loop decreases-loop
 returns c =
     let args = c.before.before.before.before.before.before.args in
-    let at = c.before.before.before.loop in
-    let byte : get_or args.set.now at.i 0 < 256 = omega (arith, c.before.shared-slice-known2.given at.i) in
+    let at = c.before.before.before.loop-i in
+    let byte : get_or args.set.now at.i 0 < 256 = omega (arith, c.before.shared_slice_known-in-loop-i-1.given at.i) in
     let some = some-from args.width args.set.now at.i at.skip (omega arith) byte in
-    let (g, from, t) = some at.invariant.0 c.if1.true in
+    let (g, from, t) = some at.invariant.0 c.if-rest-gt0.true in
     record { none = λ e. absurd (true≢false e); some = λ _. (g, omega arith, t) }
 
-loop-again : tie.Need-loop-preserved invariant-loop decreases-loop
+loop-again : tie.Need-loop-i-preserved invariant-loop decreases-loop
 loop-again c =
     let args = c.before.before.before.before.before.before.args in
-    let at = c.before.before.before.loop in
+    let at = c.before.before.before.loop-i in
     let gone : get_or args.set.now at.i 0 / 2 ^ at.skip ≡ 0 = omega arith in (
       omega arith,
       omega arith,
@@ -45,10 +45,10 @@ loop-again c =
           (below_or_from g (at.i * 8 + at.skip)),
     )
 
-returns-2 : tie.Need-returns-2 invariant-loop decreases-loop
+returns-2 : tie.Need-returns invariant-loop decreases-loop
 returns-2 c =
     let args = c.before.before.before.before.args in
-    let at = c.before.loop in
+    let at = c.before.loop-i in
     record {
       none =
           λ _ g p.
@@ -57,8 +57,8 @@ returns-2 c =
       some = λ e. absurd (false≢true e);
     }
 
-pub any-from-spec : {M : Type 1} → statement M
-any-from-spec =
+pub any_from_spec : {M : Type 1} → statement M
+any_from_spec =
     tie.close
     (tie.spec invariant-loop decreases-loop
     (λ c κs. search rules) loop-holds (λ c. omega arith) (λ c. omega arith) (λ c. omega arith) returns

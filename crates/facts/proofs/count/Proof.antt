@@ -12,36 +12,36 @@ use Rattle.facts.proofs.Laws.{count-byte, count-all}
 use Rattle.facts.proofs.count.Statement.{statement}
 use Rattle.facts.proofs.count.Tie as tie
 
-abbrev invariant-loop : tie.invariant-loop
+abbrev invariant-loop : tie.invariant-loop-i
 invariant-loop set width bytes found₀ i₀ found i = (i ≤ bytes) × (found ≡ size (within width set) (i * 8))
 
-abbrev decreases-loop : tie.decreases-loop
+abbrev decreases-loop : tie.decreases-loop-i
 decreases-loop set width bytes found₀ i₀ found i = bytes - i
 
 -- the byte that a turn counts
-abbrev byte : tie.After-shared-slice-known2 invariant-loop decreases-loop → ℕ
-byte c = get_or c.before.before.before.before.before.args.set.now c.before.before.loop.i 0
+abbrev byte : tie.After-shared_slice_known-in-loop-i-1 invariant-loop decreases-loop → ℕ
+byte c = get_or c.before.before.before.before.before.args.set.now c.before.before.loop-i.i 0
 
-byte-lt : (c : tie.After-shared-slice-known2 invariant-loop decreases-loop) → byte c < 256
-byte-lt c = omega (arith, c.shared-slice-known2.given c.before.before.loop.i)
+byte-lt : (c : tie.After-shared_slice_known-in-loop-i-1 invariant-loop decreases-loop) → byte c < 256
+byte-lt c = omega (arith, c.shared_slice_known-in-loop-i-1.given c.before.before.loop-i.i)
 
-loop-holds : tie.Need-loop-init invariant-loop decreases-loop
+loop-holds : tie.Need-loop-i-init invariant-loop decreases-loop
 unfolding size
 loop-holds c = (omega arith, refl)
 
-cast-found-2 : tie.Need-overflow-cast-found-2 invariant-loop decreases-loop
+cast-found-2 : tie.Need-overflow_cast-found-in-loop-i invariant-loop decreases-loop
 cast-found-2 c = omega (arith, ones-le 8 (byte c) (byte-lt c))
 
-add-found : tie.Need-overflow-add-found invariant-loop decreases-loop
+add-found : tie.Need-overflow_add-found invariant-loop decreases-loop
 add-found c =
     let args = c.before.before.before.before.before.args in
-    let most = size_le (within args.width args.set.now) (c.before.before.loop.i * 8) in
+    let most = size_le (within args.width args.set.now) (c.before.before.loop-i.i * 8) in
     omega (arith, ones-le 8 (byte c) (byte-lt c))
 
-loop-again : tie.Need-loop-preserved invariant-loop decreases-loop
+loop-again : tie.Need-loop-i-preserved invariant-loop decreases-loop
 loop-again c =
     let args = c.before.before.before.before.before.args in
-    let i = c.before.before.loop.i in
+    let i = c.before.before.loop-i.i in
     let more : (i + 1) * 8 ≡ i * 8 + 8 = omega arith in (
       omega arith,
       omega (
@@ -54,7 +54,7 @@ loop-again c =
 returns : tie.Need-returns invariant-loop decreases-loop
 returns c =
     let args = c.before.before.before.before.args in
-    c.before.loop.invariant.1
+    c.before.loop-i.invariant.1
     ∙ ap (λ (k : ℕ). size (within args.width args.set.now) (k * 8)) (omega arith)
     ∙ sym (count-all args.width args.set.now)
 

@@ -9,19 +9,19 @@ use Rattle.facts.proofs.Laws.{members-byte, missing}
 use Rattle.facts.proofs.has.Statement.{statement}
 use Rattle.facts.proofs.has.Tie as tie
 
-returns : tie.Need-returns
+returns : tie.Need-returns-then-i-held
 returns c =
     let args = c.before.before.before.before.before.args in
     rw c.mask.ensures
     (on_test (get_or args.set.now (args.n / 8) 0) (args.n % 8)
-    (omega (arith, c.before.shared-slice-known2.given (args.n / 8))) (omega arith)
+    (omega (arith, c.before.shared_slice_known-then-i-held-1.given (args.n / 8))) (omega arith)
     ∙ sym (members-byte args.width args.set.now args.n (omega arith)))
 
-returns-2 : tie.Need-returns-2
+returns-2 : tie.Need-returns-else-i-held
 returns-2 c =
     let args = c.before.before.before.args in
     sym (missing args.width args.set.now args.n (omega arith))
 
-pub has-spec : {M : Type 1} → statement M
-has-spec =
+pub has_spec : {M : Type 1} → statement M
+has_spec =
     tie.close (tie.spec (λ c κs. search rules) (λ c. search rules) (λ c κs. search rules) returns returns-2)

@@ -9,14 +9,14 @@ use borrow.Author.Rules.{rules}
 use Rattle.facts.proofs.mask.Statement.{statement}
 use Rattle.facts.proofs.mask.Tie as tie
 
-cast-result : tie.Need-overflow-cast-result
+cast-result : tie.Need-overflow_cast-result
 cast-result c = search rules
 
-shl-result : tie.Need-overflow-shl-result
+shl-result : tie.Need-overflow_shl-result
 shl-result c = search rules
 
 returns : tie.Need-returns
 returns c = shl_exact {a = 1} 1 (c.args.n % 8) 8 (lit< tt) (omega arith) ∙ one-mul (2 ^ (c.args.n % 8))
 
-pub mask-spec : {M : Type 1} → statement M
-mask-spec = tie.close (tie.spec cast-result shl-result returns)
+pub mask_spec : {M : Type 1} → statement M
+mask_spec = tie.close (tie.spec cast-result shl-result returns)

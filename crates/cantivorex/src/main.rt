@@ -9,7 +9,7 @@ use libc::{ENOENT, STDOUT_FILENO};
 use running::Verdict;
 
 // A file's bytes at the start of a buffer: how many, and whether the file was read as far as the buffer goes.
-#[derive(Drop)]
+#[derive(Clone, Copy)]
 struct Loaded {
     is_read: bool,
     size: usize,
@@ -73,7 +73,7 @@ fn print_value(word: &[u8], n: usize) -> bool {
 }
 
 // A word of at most eight bytes.
-#[derive(Drop)]
+#[derive(Clone, Copy)]
 struct Word {
     bytes: [u8; 8],
     size: usize,

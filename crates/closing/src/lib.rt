@@ -21,14 +21,14 @@ use sections::Role;
 use worklist::Worked;
 
 // What closing answers: the number of rounds, or a refusal's number.
-#[derive(Drop)]
+#[derive(Clone, Copy)]
 pub enum Closed {
     Rounds(usize),
     Refused(u8),
 }
 
 // What closing with an index answers: the numbers of rounds and of body places crossed, or a refusal's number.
-#[derive(Drop)]
+#[derive(Clone, Copy)]
 pub enum Crossed {
     Rounds(usize, usize),
     Refused(u8),

@@ -10,7 +10,7 @@ use records::Fault;
 
 // How many clauses, rules and goals a judged model has, its attack states and formulas. With F in it too closing would
 // need more stack.
-#[derive(Drop)]
+#[derive(Clone, Copy)]
 pub struct Counts {
     pub clauses: usize,
     pub rules: usize,
@@ -18,14 +18,14 @@ pub struct Counts {
 }
 
 // What a model is.
-#[derive(Drop)]
+#[derive(Clone, Copy)]
 pub enum Judged {
     Fine(Counts),
     Fault(Fault),
 }
 
 // A part of one of the two files: whose, 0 the model's or 1 the trace's, where it starts and how many bytes it has.
-#[derive(Drop)]
+#[derive(Clone, Copy)]
 pub struct Part {
     pub mark: u8,
     pub start: usize,
@@ -33,14 +33,14 @@ pub struct Part {
 }
 
 // What the sizes and versions of two files are.
-#[derive(Drop)]
+#[derive(Clone, Copy)]
 pub enum Heads {
     Fine,
     Fault(u8, Part),
 }
 
 // What a pair of files is; at fault by a number, with the part at fault.
-#[derive(Drop)]
+#[derive(Clone, Copy)]
 pub enum Pair {
     Fine(Counts),
     Fault(u8, Part),

@@ -19,7 +19,7 @@ use stepping::conditions;
 use stepping::conditions::{Kind, Unmet};
 
 // How many rules fire, or a refusal's number.
-#[derive(Drop)]
+#[derive(Clone, Copy)]
 pub enum Fired {
     Count(usize),
     Refused(u8),

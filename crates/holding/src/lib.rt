@@ -14,7 +14,7 @@ use stepping::conditions;
 use stepping::conditions::Unmet;
 
 // The fact's round number, 65,535 where it is absent, and the rounds run on the last state; or a refusal's number.
-#[derive(Drop)]
+#[derive(Clone, Copy)]
 pub enum Answer {
     Round(usize, usize),
     Refused(u8),

@@ -15,7 +15,7 @@ use stepping::conditions;
 use stepping::conditions::Unmet;
 
 // Where the steps led: how many fired, the rounds counted, and the condition that blocks the next step.
-#[derive(Drop)]
+#[derive(Clone, Copy)]
 pub struct Steps {
     pub fired: usize,
     pub rounds: usize,

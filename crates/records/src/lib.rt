@@ -10,7 +10,7 @@ ghost use Rattle.records.specs.Answers.{code, found};
 ghost use Rattle.records.specs.Marking.{marked, marked_by, picked, picked_of, before};
 
 // The kinds of records. A maker is a rule with a fourth list, the names it makes.
-#[derive(Drop)]
+#[derive(Clone, Copy)]
 pub enum Kind {
     Clause,
     Rule,
@@ -20,7 +20,7 @@ pub enum Kind {
 }
 
 // A fault: document 01's number, and the bytes at fault by their place and length.
-#[derive(Drop)]
+#[derive(Clone, Copy)]
 pub struct Fault {
     pub number: u8,
     pub start: usize,
@@ -28,14 +28,14 @@ pub struct Fault {
 }
 
 // What a section of records is: fine, with so many records, or at fault.
-#[derive(Drop)]
+#[derive(Clone, Copy)]
 pub enum Found {
     Fine(usize),
     Fault(Fault),
 }
 
 // What a list is allowed: so many numbers, each below the limit; they are names or facts.
-#[derive(Drop)]
+#[derive(Clone, Copy)]
 pub struct Row {
     pub longest: usize,
     pub limit: usize,
@@ -43,7 +43,7 @@ pub struct Row {
 }
 
 // Which faults a record's lists have shown so far.
-#[derive(Drop)]
+#[derive(Clone, Copy)]
 struct Marks {
     count: bool,
     fact: bool,
@@ -52,7 +52,7 @@ struct Marks {
 }
 
 // What looking along a list shows.
-#[derive(Drop)]
+#[derive(Clone, Copy)]
 struct Seen {
     large: bool,
     broken: bool,

@@ -20,7 +20,7 @@ use stepping::conditions::{Condition, Unmet};
 
 // Document 01's verdict: its number and the values that the line shows, and the part at fault. An unmet condition has a
 // kind, 1 positive or 2 negative, and a negative one the round in which its fact arose; 0 and 65,535 stand for none.
-#[derive(Drop)]
+#[derive(Clone, Copy)]
 pub struct Verdict {
     pub number: u8,
     pub step: usize,
@@ -34,7 +34,7 @@ pub struct Verdict {
 
 // How a run ends: the goal is met, a step is blocked, the attack state has a condition that isn't met, or the formula
 // is true.
-#[derive(Drop)]
+#[derive(Clone, Copy)]
 pub enum Ending {
     Attack,
     Blocked(Condition),
@@ -43,7 +43,7 @@ pub enum Ending {
 }
 
 // How and at which step a run ended, and the rounds of all states reached.
-#[derive(Drop)]
+#[derive(Clone, Copy)]
 pub struct Ended {
     pub ending: Ending,
     pub step: usize,

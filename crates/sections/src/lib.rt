@@ -12,7 +12,7 @@ pub mod head;
 use records::{Fault, Found, Kind};
 
 // The sections that a model has, by what is in them.
-#[derive(Drop)]
+#[derive(Clone, Copy)]
 pub enum Role {
     Sizes,
     Initial,
@@ -25,7 +25,7 @@ pub enum Role {
 }
 
 // What one section is: fine, with its end and how many records it has, or at fault.
-#[derive(Drop)]
+#[derive(Clone, Copy)]
 pub enum Passed {
     To { end: usize, count: usize },
     Fault(Fault),

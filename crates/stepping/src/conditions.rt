@@ -11,7 +11,7 @@ ghost use Rattle.stepping.specs.Conditions.{condition_of, unmet_in, KnownIn, nam
 ghost use Rattle.stepping.specs.Conditions.{of_kind_lem, KnownList};
 
 // A condition with its fact: of P, which must be in the closure, or of N, which must not; or a name, to be unused.
-#[derive(Drop)]
+#[derive(Clone, Copy)]
 pub enum Condition {
     Positive(usize),
     Negative(usize),
@@ -19,7 +19,7 @@ pub enum Condition {
 }
 
 // The kinds of lists of conditions: P, N, and the names.
-#[derive(Drop)]
+#[derive(Clone, Copy)]
 pub enum Kind {
     Positive,
     Negative,
@@ -27,7 +27,7 @@ pub enum Kind {
 }
 
 // The first unmet condition, if there is one.
-#[derive(Drop)]
+#[derive(Clone, Copy)]
 pub enum Unmet {
     Nowhere,
     At(Condition),

@@ -12,7 +12,7 @@ ghost use Rattle.worklist.specs.Arrays.{arrays, latest_in, Does, Gathered, Lacki
 ghost use Rattle.worklist.specs.Arrays.{Crossable, Amid, Between, number_in, waits_for};
 
 // What closing comes to: the number of rounds, and how many body places were crossed.
-#[derive(Drop)]
+#[derive(Clone, Copy)]
 pub struct Worked {
     pub rounds: usize,
     pub crossings: usize,

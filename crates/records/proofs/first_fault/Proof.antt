@@ -8,27 +8,27 @@ use Rattle.records.proofs.Judging.{judge-lists, judge-formula}
 use Rattle.records.proofs.first_fault.Statement.{statement}
 use Rattle.records.proofs.first_fault.Tie as tie
 
-enum_told : tie.Need-enum-told
+enum_told : tie.Need-enum_told-1
 enum_told c = search rules
 
-formulas-fault-requires : tie.Need-formulas-fault-requires
+formulas-fault-requires : tie.Need-formulas_fault-requires
 formulas-fault-requires c κs = search rules
 
-returns : tie.Need-returns
-returns c = rw (c.before.enum_told.given.1, judge-formula) c.formulas-fault.ensures
+returns : tie.Need-returns-in-Formula
+returns c = rw (c.before.enum_told-1.given.1, judge-formula) c.formulas_fault.ensures
 
 -- the kind is one of the first four
-other : (c : tie.At-match-keys2) → c.before.before.args.kind ≡ Formula → ⊥
+other : (c : tie.In_default) → c.before.before.args.kind ≡ Formula → ⊥
 other c e =
     ⊎_elim (λ h. omega arith) (⊎_elim (λ h. omega arith) (⊎_elim (λ h. omega arith) (λ h. omega arith)))
-    (rw e at c.match.keys2)
+    (rw e at c.in-Formula.keys2)
 
-lists-fault-requires : tie.Need-lists-fault-requires
+lists-fault-requires : tie.Need-lists_fault-requires
 lists-fault-requires c κs = other c
 
-returns-2 : tie.Need-returns-2
-returns-2 c = rw (judge-lists _ (other c.before)) c.lists-fault.ensures
+returns-2 : tie.Need-returns
+returns-2 c = rw (judge-lists _ (other c.before)) c.lists_fault.ensures
 
-pub first-fault-spec : {M : Type 1} → statement M
-first-fault-spec =
+pub first_fault_spec : {M : Type 1} → statement M
+first_fault_spec =
     tie.close (tie.spec enum_told formulas-fault-requires returns lists-fault-requires returns-2)

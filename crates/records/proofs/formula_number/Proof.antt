@@ -20,41 +20,41 @@ use Rattle.records.proofs.Sections.{rest_of}
 use Rattle.records.proofs.formula_number.Statement.{statement}
 use Rattle.records.proofs.formula_number.Tie as tie
 
-is-whole-requires : tie.Need-is-whole-requires
+is-whole-requires : tie.Need-is_whole-requires
 is-whole-requires c κs = search rules
 
-returns : tie.Need-returns
+returns : tie.Need-returns-then-not-is_whole
 unfolding judge_formula code
-returns c = rw (← c.before.is_whole.ensures, c.if1.true)
+returns c = rw (← c.before.is_whole.ensures, c.if-not-is_whole.true)
 
 -- the record is whole, and so has its length
-fits : (c : tie.Else1) → whole c.before.before.before.args.formula.now ≡ true
-fits c = sym c.before.is_whole.ensures ∙ not-false _ c.if1.false
+fits : (c : tie.Else-not-is_whole) → whole c.before.before.before.args.formula.now ≡ true
+fits c = sym c.before.is_whole.ensures ∙ not-false _ c.if-not-is_whole.false
 
-long : (c : tie.Else1) → 2 ≤ length c.before.before.before.args.formula.now
+long : (c : tie.Else-not-is_whole) → 2 ≤ length c.before.before.before.args.formula.now
 unfolding whole
 long c =
     let r = c.before.before.before.args.formula.now in
     omega (arith, eqb-true (length r) (2 + word r) (fits c))
 
-sub-codes : tie.Need-overflow-sub-codes
+sub-codes : tie.Need-slice_bounds-codes-count
 sub-codes c = long c
 
-part-codes-start : tie.Need-slice-bounds-codes-start
+part-codes-start : tie.Need-slice_bounds-codes-start
 part-codes-start c = omega (arith, long c)
 
-part-codes-end : tie.Need-slice-bounds-codes-end
+part-codes-end : tie.Need-slice_bounds-codes-end
 part-codes-end c = search rules
 
-returns-2 : tie.Need-returns-2
+returns-2 : tie.Need-returns-then-codes-eq1
 unfolding judge_formula code
 returns-2 c =
     let s = c.before.before in
     let codes = drop 2 s.before.before.before.args.formula.now in
-    let is : odd codes ≡ true = odd_is codes ∙ eq-eqb _ _ (rw rest_of at c.if2.true) in
+    let is : odd codes ≡ true = odd_is codes ∙ eq-eqb _ _ (rw rest_of at c.if-codes-eq1.true) in
     rw (fits s, is)
 
-beyond-requires : tie.Need-beyond-requires
+beyond-requires : tie.Need-beyond-marks-requires
 beyond-requires c κs = search rules
 
 -- whether the record has too many codes or is one too many
@@ -64,7 +64,7 @@ counted : (m : Marks) (n : ℕ) (r : List ℕ) → m ≡ before Formula n
 unfolding codes_in before
 counted m n r e = rw (rest_of, e, length-words)
 
-module _ (c : tie.After-beyond) where
+module _ (c : tie.After-beyond-marks) where
   abbrev s : tie.Start
   s = c.before.before.before.before.before.before
 
@@ -76,15 +76,15 @@ module _ (c : tie.After-beyond) where
 
   -- its codes are in twos
   even : odd (drop 2 formula) ≡ false
-  even = odd_is (drop 2 formula) ∙ ne_eqb _ _ (rw rest_of at c.before.if2.false)
+  even = odd_is (drop 2 formula) ∙ ne_eqb _ _ (rw rest_of at c.before.if-codes-eq1.false)
 
-  counts : (c.beyond.result.count || ltb 255 (length (take (length formula - 2) (drop 2 formula)) / 2))
+  counts : (c.beyond-marks.result.count || ltb 255 (length (take (length formula - 2) (drop 2 formula)) / 2))
       ≡ (leb (most Formula) s.args.n || ltb 255 (length (codes_in formula)))
-  counts = counted c.beyond.result s.args.n formula c.beyond.ensures
+  counts = counted c.beyond-marks.result s.args.n formula c.beyond-marks.ensures
 
-returns-3 : tie.Need-returns-3
+returns-3 : tie.Need-returns-then-marks-codes
 unfolding judge_formula code
-returns-3 c = let b = c.before.before in rw (fit b, even b, ← counts b, c.if3.true)
+returns-3 c = let b = c.before.before in rw (fit b, even b, ← counts b, c.if-marks-codes.true)
 
 reaches-requires : tie.Need-reaches-requires
 reaches-requires c κs = search rules
@@ -96,43 +96,43 @@ reach : (c : tie.After-reaches)
 unfolding codes_in
 reach c = rw rest_of at c.reaches.ensures
 
-returns-4 : tie.Need-returns-4
+returns-4 : tie.Need-returns-then-reaches
 unfolding judge_formula code
 returns-4 c =
     let b = c.before.before.before.before in
-    rw (fit b, even b, ← counts b, c.before.before.if3.false, ← reach c.before, c.if4.true)
+    rw (fit b, even b, ← counts b, c.before.before.if-marks-codes.false, ← reach c.before, c.if-reaches.true)
 
-is-formula-requires : tie.Need-is-formula-requires
+is-formula-requires : tie.Need-is_formula-requires
 is-formula-requires c κs = search rules
 
 -- with neither, the number is that for the codes
-last : (c : tie.After-is-formula)
+last : (c : tie.After-is_formula)
     → let args = (s c.before.before.before.before.before).args in
-    judge_formula args.facts args.n args.formula.now ≡ given (not c.is-formula.result) 17
+    judge_formula args.facts args.n args.formula.now ≡ given (not c.is_formula.result) 17
 unfolding judge_formula
 last c =
     let b = c.before.before.before.before.before in
-    let is = rw rest_of at c.is-formula.ensures in
+    let is = rw rest_of at c.is_formula.ensures in
     rw (
       fit b,
       even b,
       ← counts b,
-      c.before.before.before.if3.false,
+      c.before.before.before.if-marks-codes.false,
       ← reach c.before.before,
-      c.before.if4.false,
+      c.before.if-reaches.false,
       is,
     )
 
-returns-5 : tie.Need-returns-5
+returns-5 : tie.Need-returns-then-is_formula
 unfolding code given
-returns-5 c = rw (last c.before, c.if5.true)
+returns-5 c = rw (last c.before, c.if-is_formula.true)
 
-returns-6 : tie.Need-returns-6
+returns-6 : tie.Need-returns-else-is_formula
 unfolding code given
-returns-6 c = rw (last c.before, c.if5.false)
+returns-6 c = rw (last c.before, c.if-is_formula.false)
 
-pub formula-number-spec : {M : Type 1} → statement M
-formula-number-spec =
+pub formula_number_spec : {M : Type 1} → statement M
+formula_number_spec =
     tie.close
     (tie.spec
     is-whole-requires

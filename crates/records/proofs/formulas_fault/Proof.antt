@@ -14,71 +14,71 @@ use Rattle.records.proofs.Judging.{refused, formula-passed}
 use Rattle.records.proofs.formulas_fault.Statement.{statement}
 use Rattle.records.proofs.formulas_fault.Tie as tie
 
-abbrev invariant-loop : tie.invariant-loop
+abbrev invariant-loop : tie.invariant-loop-at
 invariant-loop section facts at₀ n₀ at n =
     (n ≤ at)
     × (at ≤ length section)
     × (found (first_fault_lem (judge_formula facts) section) (length (records section))
     ≡ answer_from (judge_formula facts) section n at)
 
-abbrev decreases-loop : tie.decreases-loop
+abbrev decreases-loop : tie.decreases-loop-at
 decreases-loop section facts at₀ n₀ at n = length section - at
 
-loop-holds : tie.Need-loop-init invariant-loop decreases-loop
+loop-holds : tie.Need-loop-at-init invariant-loop decreases-loop
 loop-holds c = (zero-le, zero-le, answer-start _ _)
 
-record-at-requires : tie.Need-record-at-requires invariant-loop decreases-loop
+record-at-requires : tie.Need-record_at-formula-requires invariant-loop decreases-loop
 record-at-requires c κs = search rules
 
-formula-number-requires : tie.Need-formula-number-requires invariant-loop decreases-loop
+formula-number-requires : tie.Need-formula_number-number-requires invariant-loop decreases-loop
 formula-number-requires c κs = search rules
 
-returns : tie.Need-returns invariant-loop decreases-loop
+returns : tie.Need-returns-then-number-ne0 invariant-loop decreases-loop
 returns c =
     let told = c.before in
     let turn = told.before.before in
-    let loop = turn.before.loop in
+    let loop = turn.before.loop-at in
     sym (loop.invariant.2
-    ∙ answer-fault _ _ loop.n loop.at _ told.before.record-at.ensures turn.loop-test.true _
-    (refused _ _ told.formula-number.ensures c.if1.true))
+    ∙ answer-fault _ _ loop.n loop.at _ told.before.record_at-formula.ensures turn.loop-at-test.true _
+    (refused _ _ told.formula_number-number.ensures c.if-number-ne0.true))
 
 -- the place after the record at hand
-further : (c : tie.Else1 invariant-loop decreases-loop)
+further : (c : tie.Else-number-ne0 invariant-loop decreases-loop)
     → let turn = c.before.before.before in
-    let next = turn.before.loop.at + length c.before.before.record-at.result.now in
-    (turn.before.loop.at < next) × (next ≤ length turn.before.before.before.args.section.now)
+    let next = turn.before.loop-at.at + length c.before.before.record_at-formula.result.now in
+    (turn.before.loop-at.at < next) × (next ≤ length turn.before.before.before.args.section.now)
 further c =
     let turn = c.before.before.before in
-    place_after _ _ _ c.before.before.record-at.ensures turn.loop-test.true
+    place_after _ _ _ c.before.before.record_at-formula.ensures turn.loop-at-test.true
 
-add_at : tie.Need-overflow-add-at invariant-loop decreases-loop
+add_at : tie.Need-overflow_add-at invariant-loop decreases-loop
 add_at c = omega (arith, further c)
 
-add-n : tie.Need-overflow-add-n invariant-loop decreases-loop
+add-n : tie.Need-overflow_add-n invariant-loop decreases-loop
 add-n c = omega (arith, further c)
 
-loop-less : tie.Need-loop-smaller invariant-loop decreases-loop
+loop-less : tie.Need-loop-at-smaller invariant-loop decreases-loop
 loop-less c = omega (arith, further c)
 
-loop-again : tie.Need-loop-preserved invariant-loop decreases-loop
+loop-again : tie.Need-loop-at-preserved invariant-loop decreases-loop
 loop-again c =
     let told = c.before in
     let turn = told.before.before in
-    let loop = turn.before.loop in (
+    let loop = turn.before.loop-at in (
       omega (arith, further c),
       (further c).1,
       loop.invariant.2
-          ∙ answer-next _ _ loop.n loop.at _ told.before.record-at.ensures turn.loop-test.true
-          (formula-passed _ _ _ (sym c.if1.false ∙ told.formula-number.ensures)),
+          ∙ answer-next _ _ loop.n loop.at _ told.before.record_at-formula.ensures turn.loop-at-test.true
+          (formula-passed _ _ _ (sym c.if-number-ne0.false ∙ told.formula_number-number.ensures)),
     )
 
-returns-2 : tie.Need-returns-2 invariant-loop decreases-loop
+returns-2 : tie.Need-returns invariant-loop decreases-loop
 returns-2 c =
-    let loop = c.before.loop in
-    sym (loop.invariant.2 ∙ answer-end _ _ loop.n loop.at c.loop-test.false)
+    let loop = c.before.loop-at in
+    sym (loop.invariant.2 ∙ answer-end _ _ loop.n loop.at c.loop-at-test.false)
 
-pub formulas-fault-spec : {M : Type 1} → statement M
-formulas-fault-spec =
+pub formulas_fault_spec : {M : Type 1} → statement M
+formulas_fault_spec =
     tie.close
     (tie.spec
     invariant-loop

@@ -21,70 +21,70 @@ record Come (codes : List ℕ) (bits at : ℕ) : Type 0 where
   number : bits ≡ bits_of above
   same : is_formula_lem (words codes) ≡ left above (words (drop at codes))
 
-abbrev invariant-loop : tie.invariant-loop
+abbrev invariant-loop : tie.invariant-loop-at
 invariant-loop codes above₀ at₀ above at = (at ≤ length codes) × Come codes above at
 
-abbrev decreases-loop : tie.decreases-loop
+abbrev decreases-loop : tie.decreases-loop-at
 decreases-loop codes above₀ at₀ above at = length codes - at
 
-loop-holds : tie.Need-loop-init invariant-loop decreases-loop
+loop-holds : tie.Need-loop-at-init invariant-loop decreases-loop
 unfolding bits_of
 loop-holds c = (zero-le, record { above = some []; number = refl; same = left-start _ })
 
-sub-loop : tie.Need-overflow-sub-loop invariant-loop decreases-loop
+sub-loop : tie.Need-overflow_sub-codes invariant-loop decreases-loop
 sub-loop c = omega arith
 
-word-at-requires : tie.Need-word-at-requires invariant-loop decreases-loop
+word-at-requires : tie.Need-word_at-code-requires invariant-loop decreases-loop
 word-at-requires c κs = omega arith
 
 -- In a turn: the code at hand, and those from two bytes further on.
-module _ (c : tie.After-word-at invariant-loop decreases-loop) where
+module _ (c : tie.After-word_at-code invariant-loop decreases-loop) where
   abbrev codes : List ℕ
   codes = c.before.before.before.before.args.codes.now
 
   abbrev at : ℕ
-  at = c.before.before.loop.at
+  at = c.before.before.loop-at.at
 
-  abbrev come : Come codes c.before.before.loop.above at
-  come = c.before.before.loop.invariant.1
+  abbrev come : Come codes c.before.before.loop-at.above at
+  come = c.before.before.loop-at.invariant.1
 
-  next : words (drop at codes) ≡ c.word_at.result ∷ words (drop (at + 2) codes)
-  next = words-at codes at (rw length-drop (omega arith)) ∙ rw (← c.word_at.ensures)
+  next : words (drop at codes) ≡ c.word_at-code.result ∷ words (drop (at + 2) codes)
+  next = words-at codes at (rw length-drop (omega arith)) ∙ rw (← c.word_at-code.ensures)
 
-  same : is_formula_lem (words codes) ≡ left come.above (c.word_at.result ∷ words (drop (at + 2) codes))
+  same : is_formula_lem (words codes) ≡ left come.above (c.word_at-code.result ∷ words (drop (at + 2) codes))
   same = rw (← next) come.same
 
-returns : tie.Need-returns invariant-loop decreases-loop
+returns : tie.Need-returns-then-above-code invariant-loop decreases-loop
 returns c =
     let t = c.before in
-    sym (same t ∙ left-stops (come t).above _ _ (rw (come t).number at c.if1.true))
+    sym (same t ∙ left-stops (come t).above _ _ (rw (come t).number at c.if-above-code.true))
 
-pass-requires : tie.Need-pass-requires invariant-loop decreases-loop
-pass-requires c κs = (stops-not _ c.before.word_at.result c.if1.false).0
+pass-requires : tie.Need-pass-above-requires invariant-loop decreases-loop
+pass-requires c κs = (stops-not _ c.before.word_at-code.result c.if-above-code.false).0
 
-add_at : tie.Need-overflow-add-at invariant-loop decreases-loop
+add_at : tie.Need-overflow_add-at invariant-loop decreases-loop
 add_at c = omega arith
 
-loop-less : tie.Need-loop-smaller invariant-loop decreases-loop
+loop-less : tie.Need-loop-at-smaller invariant-loop decreases-loop
 loop-less c = omega arith
 
-loop-again : tie.Need-loop-preserved invariant-loop decreases-loop
+loop-again : tie.Need-loop-at-preserved invariant-loop decreases-loop
 loop-again c =
     let t = c.before.before in
-    let stays = rw (come t).number at c.before.if1.false in
-    let is = rw (come t).number at c.pass.ensures in
+    let stays = rw (come t).number at c.before.if-above-code.false in
+    let is = rw (come t).number at c.pass-above.ensures in
     let (above, number, later) = left-next (come t).above _ (words (drop (at t + 2) (codes t))) stays _ is in
     (omega arith, record { above = above; number = number; same = same t ∙ later })
 
-returns-2 : tie.Need-returns-2 invariant-loop decreases-loop
+returns-2 : tie.Need-returns invariant-loop decreases-loop
 returns-2 c =
     let codes = c.before.before.before.args.codes.now in
-    let come = c.before.loop.invariant.1 in
-    let none : words (drop c.before.loop.at codes) ≡ [] = words-none _ (rw length-drop (omega arith)) in
+    let come = c.before.loop-at.invariant.1 in
+    let none : words (drop c.before.loop-at.at codes) ≡ [] = words-none _ (rw length-drop (omega arith)) in
     sym (come.same ∙ rw (none, come.number) (left_end come.above))
 
-pub is-formula-spec : {M : Type 1} → statement M
-is-formula-spec =
+pub is_formula_spec : {M : Type 1} → statement M
+is_formula_spec =
     tie.close
     (tie.spec
     invariant-loop

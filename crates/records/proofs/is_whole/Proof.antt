@@ -11,23 +11,23 @@ use Rattle.records.proofs.Words.{word_small}
 use Rattle.records.proofs.is_whole.Statement.{statement}
 use Rattle.records.proofs.is_whole.Tie as tie
 
-returns : tie.Need-returns
+returns : tie.Need-returns-then-bytes-lt2
 unfolding whole
 returns c =
     let bytes = c.before.before.args.bytes.now in
     sym (ne_eqb (length bytes) (2 + word bytes) (λ e. omega arith))
 
-word-at-requires : tie.Need-word-at-requires
+word-at-requires : tie.Need-word_at-requires
 word-at-requires c κs = search rules
 
-add-result : tie.Need-overflow-add-result
+add-result : tie.Need-overflow_add-result
 add-result c =
     let known = c.before.before in
-    omega (arith, word_small known.before.args.bytes.now 0 known.shared-slice-known.given)
+    omega (arith, word_small known.before.args.bytes.now 0 known.shared_slice_known-1.given)
 
-returns-2 : tie.Need-returns-2
+returns-2 : tie.Need-returns
 unfolding whole
 returns-2 c = rw c.word_at.ensures
 
-pub is-whole-spec : {M : Type 1} → statement M
-is-whole-spec = tie.close (tie.spec returns word-at-requires add-result returns-2)
+pub is_whole_spec : {M : Type 1} → statement M
+is_whole_spec = tie.close (tie.spec returns word-at-requires add-result returns-2)

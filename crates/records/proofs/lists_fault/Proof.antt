@@ -16,41 +16,41 @@ use Rattle.records.proofs.Judging.{refused, lists-passed, lists-size}
 use Rattle.records.proofs.lists_fault.Statement.{statement}
 use Rattle.records.proofs.lists_fault.Tie as tie
 
-abbrev invariant-loop : tie.invariant-loop
+abbrev invariant-loop : tie.invariant-loop-at
 invariant-loop section kind facts at₀ n₀ at n =
     (n ≤ at)
     × (at ≤ length section)
     × (found (first_fault_lem (judge_lists kind facts) section) (length (records section))
     ≡ answer_from (judge_lists kind facts) section n at)
 
-abbrev decreases-loop : tie.decreases-loop
+abbrev decreases-loop : tie.decreases-loop-at
 decreases-loop section kind facts at₀ n₀ at n = length section - at
 
-loop-holds : tie.Need-loop-init invariant-loop decreases-loop
+loop-holds : tie.Need-loop-at-init invariant-loop decreases-loop
 loop-holds c = (zero-le, zero-le, answer-start _ _)
 
-sub-record-number : tie.Need-overflow-sub-record-number invariant-loop decreases-loop
+sub-record-number : tie.Need-slice_bounds-record_number-count invariant-loop decreases-loop
 sub-record-number c = omega arith
 
-part-record-number-start : tie.Need-slice-bounds-record-number-start invariant-loop decreases-loop
+part-record-number-start : tie.Need-slice_bounds-record_number-start invariant-loop decreases-loop
 part-record-number-start c = omega arith
 
-part-record-number-end : tie.Need-slice-bounds-record-number-end invariant-loop decreases-loop
+part-record-number-end : tie.Need-slice_bounds-record_number-end invariant-loop decreases-loop
 part-record-number-end c = omega arith
 
-record-number-requires : tie.Need-record-number-requires invariant-loop decreases-loop
+record-number-requires : tie.Need-record_number-number-requires invariant-loop decreases-loop
 record-number-requires c κs = search rules
 
 -- In a turn: the record at hand, and the number for it.
-module _ (c : tie.After-record-number invariant-loop decreases-loop) where
-  abbrev turn : tie.In-loop invariant-loop decreases-loop
+module _ (c : tie.After-record_number-number invariant-loop decreases-loop) where
+  abbrev turn : tie.In-loop-at invariant-loop decreases-loop
   turn = c.before.before
 
   abbrev section : List ℕ
   section = turn.before.before.before.args.section.now
 
   abbrev at : ℕ
-  at = turn.before.loop.at
+  at = turn.before.loop-at.at
 
   abbrev whole : List ℕ
   whole = record_of_lem (drop at section)
@@ -58,72 +58,72 @@ module _ (c : tie.After-record-number invariant-loop decreases-loop) where
   abbrev verdict : Option ℕ
   verdict =
       judge_lists turn.before.before.before.args.kind turn.before.before.before.args.facts
-      turn.before.loop.n whole
+      turn.before.loop-at.n whole
 
-  number_is : c.record-number.result ≡ code verdict
-  number_is = rw rest_of at c.record-number.ensures
+  number_is : c.record_number-number.result ≡ code verdict
+  number_is = rw rest_of at c.record_number-number.ensures
 
-record-at-requires : tie.Need-record-at-requires invariant-loop decreases-loop
+record-at-requires : tie.Need-record_at-record-requires invariant-loop decreases-loop
 record-at-requires c κs = search rules
 
-returns : tie.Need-returns invariant-loop decreases-loop
+returns : tie.Need-returns-then-number-ne0 invariant-loop decreases-loop
 returns c =
     let told = c.before.before in
-    let loop = (turn told).before.loop in
-    rw c.record-at.ensures
-    (sym (loop.inv.2
-    ∙ answer-fault _ _ loop.n loop.at _ refl (turn told).loop-test.true _
-    (refused _ _ (number_is told) c.before.if1.true)))
+    let loop = (turn told).before.loop-at in
+    rw c.record_at-record.ensures
+    (sym (loop.invariant.2
+    ∙ answer-fault _ _ loop.n loop.at _ refl (turn told).loop-at-test.true _
+    (refused _ _ (number_is told) c.before.if-number-ne0.true)))
 
 -- Where nothing is wrong with the record: its length tells its size, and so the next place.
-module _ (c : tie.Else1 invariant-loop decreases-loop) where
+module _ (c : tie.Else-number-ne0 invariant-loop decreases-loop) where
   fine : 0 ≡ code (verdict c.before)
-  fine = sym c.if1.false ∙ number_is c.before
+  fine = sym c.if-number-ne0.false ∙ number_is c.before
 
   size_is : length (whole c.before) ≡ 2 + word (drop (at c.before) (section c.before))
   size_is = lists-size _ _ _ _ fine
 
   further : let next = at c.before + length (whole c.before) in
       (at c.before < next) × (next ≤ length (section c.before))
-  further = place_after _ _ _ refl (turn c.before).loop-test.taken
+  further = place_after _ _ _ refl (turn c.before).loop-at-test.true
 
-word-at-requires : tie.Need-word-at-requires invariant-loop decreases-loop
+word-at-requires : tie.Need-word_at-requires invariant-loop decreases-loop
 word-at-requires c κs = omega (arith, size_is c, further c)
 
-next-is : (c : tie.After-word-at invariant-loop decreases-loop) → 2 + c.word_at.result ≡ length (whole c.before.before)
+next-is : (c : tie.After-word_at invariant-loop decreases-loop) → 2 + c.word_at.result ≡ length (whole c.before.before)
 next-is c = omega (arith, c.word_at.ensures, size_is c.before)
 
-add_at : tie.Need-overflow-add-at invariant-loop decreases-loop
+add_at : tie.Need-overflow_add-at invariant-loop decreases-loop
 add_at c = omega (arith, next-is c, further c.before)
 
-add-at-2 : tie.Need-overflow-add-at-2 invariant-loop decreases-loop
+add-at-2 : tie.Need-overflow_add-at-in-loop-at invariant-loop decreases-loop
 add-at-2 c = omega (arith, next-is c, further c.before)
 
-add-n : tie.Need-overflow-add-n invariant-loop decreases-loop
+add-n : tie.Need-overflow_add-n invariant-loop decreases-loop
 add-n c = omega (arith, next-is c, further c.before)
 
-loop-less : tie.Need-loop-smaller invariant-loop decreases-loop
+loop-less : tie.Need-loop-at-smaller invariant-loop decreases-loop
 loop-less c = omega (arith, next-is c, further c.before)
 
-loop-again : tie.Need-loop-preserved invariant-loop decreases-loop
+loop-again : tie.Need-loop-at-preserved invariant-loop decreases-loop
 loop-again c =
     let told = c.before.before in
-    let loop = (turn told).before.loop in
+    let loop = (turn told).before.loop-at in
     rw (next-is c) (
       omega (arith, further c.before),
       (further c.before).1,
-      loop.inv.2
-          ∙ answer-next _ _ loop.n loop.at _ refl (turn told).loop-test.true
+      loop.invariant.2
+          ∙ answer-next _ _ loop.n loop.at _ refl (turn told).loop-at-test.true
           (lists-passed _ _ _ _ (fine c.before)),
     )
 
-returns-2 : tie.Need-returns-2 invariant-loop decreases-loop
+returns-2 : tie.Need-returns invariant-loop decreases-loop
 returns-2 c =
-    let loop = c.before.loop in
-    sym (loop.invariant.2 ∙ answer-end _ _ loop.n loop.at c.loop-test.false)
+    let loop = c.before.loop-at in
+    sym (loop.invariant.2 ∙ answer-end _ _ loop.n loop.at c.loop-at-test.false)
 
-pub lists-fault-spec : {M : Type 1} → statement M
-lists-fault-spec =
+pub lists_fault_spec : {M : Type 1} → statement M
+lists_fault_spec =
     tie.close
     (tie.spec
     invariant-loop

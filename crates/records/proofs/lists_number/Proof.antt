@@ -15,118 +15,118 @@ use Rattle.records.proofs.Judging.{counted-row}
 use Rattle.records.proofs.lists_number.Statement.{statement}
 use Rattle.records.proofs.lists_number.Tie as tie
 
-abbrev invariant-loop : tie.invariant-loop
+abbrev invariant-loop : tie.invariant-loop-j
 invariant-loop body kind facts lists marks₀ at₀ j₀ marks at j =
     (at ≤ length body)
     × (picked_of (rows kind facts) marks₀ (cut_lists lists body)
     ≡ picked_of (drop j (rows kind facts)) marks (cut_lists (lists - j) (drop at body)))
 
-abbrev decreases-loop : tie.decreases-loop
+abbrev decreases-loop : tie.decreases-loop-j
 decreases-loop body kind facts lists marks₀ at₀ j₀ marks at j = lists - j
 
-list-count-requires : tie.Need-list-count-requires invariant-loop decreases-loop
+list-count-requires : tie.Need-list_count-lists-requires invariant-loop decreases-loop
 list-count-requires c κs = search rules
 
-loop-holds : tie.Need-loop-init invariant-loop decreases-loop
+loop-holds : tie.Need-loop-j-init invariant-loop decreases-loop
 loop-holds c = (zero-le, rw sub-zero)
 
-sub-if1 : tie.Need-overflow-sub-if1 invariant-loop decreases-loop
+sub-if1 : tie.Need-overflow_sub-body invariant-loop decreases-loop
 sub-if1 c = omega arith
 
 -- the number for the whole body is that for the lists still to come
-to-come : (c : tie.At-loop invariant-loop decreases-loop)
+to-come : (c : tie.At-loop-j invariant-loop decreases-loop)
     → let args = c.before.before.before.args in
     picked_of (rows args.kind args.facts) args.marks (cut_lists (list_count_lem args.kind) args.body.now)
-    ≡ picked_of (drop c.loop.j (rows args.kind args.facts)) c.loop.marks
-    (cut_lists (c.before.list_count.result - c.loop.j) (drop c.loop.at args.body.now))
-to-come c = rw (← c.before.list_count.ensures) c.loop.invariant.1
+    ≡ picked_of (drop c.loop-j.j (rows args.kind args.facts)) c.loop-j.marks
+    (cut_lists (c.before.list_count-lists.result - c.loop-j.j) (drop c.loop-j.at args.body.now))
+to-come c = rw (← c.before.list_count-lists.ensures) c.loop-j.invariant.1
 
-returns : tie.Need-returns invariant-loop decreases-loop
+returns : tie.Need-returns-then-body-at-lt2 invariant-loop decreases-loop
 unfolding code
 returns c =
     let loop = c.before.before in
-    let lists = loop.before.list_count.result in
+    let lists = loop.before.list_count-lists.result in
     sym (ap code (to-come loop
-    ∙ number_short _ _ _ loop.loop.at _ (lists - (loop.loop.j + 1)) _ (omega arith) refl (omega arith)))
+    ∙ number_short _ _ _ loop.loop-j.at _ (lists - (loop.loop-j.j + 1)) _ (omega arith) refl (omega arith)))
 
-word-at-requires : tie.Need-word-at-requires invariant-loop decreases-loop
+word-at-requires : tie.Need-word_at-size-requires invariant-loop decreases-loop
 word-at-requires c κs = omega arith
 
-mul-size : tie.Need-overflow-mul-size invariant-loop decreases-loop
+mul-size : tie.Need-overflow_mul-size invariant-loop decreases-loop
 mul-size c =
     let known = c.before.before.before.before.before in
-    let at = c.before.before.before.loop.at in
-    omega (arith, word_small known.before.args.body.now at known.shared-slice-known.given)
+    let at = c.before.before.before.loop-j.at in
+    omega (arith, word_small known.before.args.body.now at known.shared_slice_known-1.given)
 
-add_start : tie.Need-overflow-add-start invariant-loop decreases-loop
+add_start : tie.Need-overflow_add-start invariant-loop decreases-loop
 add_start c = omega arith
 
-sub-if2 : tie.Need-overflow-sub-if2 invariant-loop decreases-loop
+sub-if2 : tie.Need-overflow_sub-body-in-loop-j invariant-loop decreases-loop
 sub-if2 c = omega arith
 
-returns-2 : tie.Need-returns-2 invariant-loop decreases-loop
+returns-2 : tie.Need-returns-then-body-start invariant-loop decreases-loop
 unfolding code
 returns-2 c =
     let loop = c.before.before.before.before in
-    let lists = loop.before.list_count.result in
-    let size = c.before.word_at.result * 2 in
+    let lists = loop.before.list_count-lists.result in
+    let size = c.before.word_at-size.result * 2 in
     sym (ap code (to-come loop
-    ∙ number_short _ _ _ loop.loop.at _ (lists - (loop.loop.j + 1)) size
+    ∙ number_short _ _ _ loop.loop-j.at _ (lists - (loop.loop-j.j + 1)) size
     (omega arith) (omega arith) (omega arith)))
 
-add_at : tie.Need-overflow-add-at invariant-loop decreases-loop
+add_at : tie.Need-overflow_add-at invariant-loop decreases-loop
 add_at c = omega arith
 
-sub-mark-list : tie.Need-overflow-sub-mark-list invariant-loop decreases-loop
+sub-mark-list : tie.Need-slice_bounds-mark_list-count invariant-loop decreases-loop
 sub-mark-list c = omega arith
 
-part-mark-list-start : tie.Need-slice-bounds-mark-list-start invariant-loop decreases-loop
+part-mark-list-start : tie.Need-slice_bounds-mark_list-start invariant-loop decreases-loop
 part-mark-list-start c = omega arith
 
-part-mark-list-end : tie.Need-slice-bounds-mark-list-end invariant-loop decreases-loop
+part-mark-list-end : tie.Need-slice_bounds-mark_list-end invariant-loop decreases-loop
 part-mark-list-end c = omega arith
 
-row-of-requires : tie.Need-row-of-requires invariant-loop decreases-loop
+row-of-requires : tie.Need-row_of-requires invariant-loop decreases-loop
 row-of-requires c κs =
     let loop = c.before.before.before.before.before in
-    counted-row _ _ loop.loop.j (omega (arith, loop.before.list_count.ensures))
+    counted-row _ _ loop.loop-j.j (omega (arith, loop.before.list_count-lists.ensures))
 
-mark-list-requires : tie.Need-mark-list-requires invariant-loop decreases-loop
+mark-list-requires : tie.Need-mark_list-marks-requires invariant-loop decreases-loop
 mark-list-requires c κs = search rules
 
-add-j : tie.Need-overflow-add-j invariant-loop decreases-loop
+add-j : tie.Need-overflow_add-j invariant-loop decreases-loop
 add-j c = omega arith
 
-loop-less : tie.Need-loop-smaller invariant-loop decreases-loop
+loop-less : tie.Need-loop-j-smaller invariant-loop decreases-loop
 loop-less c = omega arith
 
-loop-again : tie.Need-loop-preserved invariant-loop decreases-loop
+loop-again : tie.Need-loop-j-preserved invariant-loop decreases-loop
 loop-again c =
     let loop = c.before.before.before.before.before.before.before in
-    let lists = loop.before.list_count.result in
-    let size = c.before.before.before.before.word_at.result * 2 in (
+    let lists = loop.before.list_count-lists.result in
+    let size = c.before.before.before.before.word_at-size.result * 2 in (
       omega arith,
-      loop.loop.invariant.1
-          ∙ number-next _ _ _ loop.loop.at _ (lists - (loop.loop.j + 1)) size (omega arith) (omega arith)
-          _ _ c.mark-list.result c.before.row_of.ensures (omega arith) c.mark-list.ensures,
+      loop.loop-j.invariant.1
+          ∙ number-next _ _ _ loop.loop-j.at _ (lists - (loop.loop-j.j + 1)) size (omega arith) (omega arith)
+          _ _ c.mark_list-marks.result c.before.row_of.ensures (omega arith) c.mark_list-marks.ensures,
     )
 
-returns-3 : tie.Need-returns-3 invariant-loop decreases-loop
+returns-3 : tie.Need-returns-then-at-body invariant-loop decreases-loop
 unfolding code
 returns-3 c =
     let loop = c.before.before in
-    sym (ap code (to-come loop ∙ number-over _ _ _ loop.loop.at _ (omega arith) (omega arith)))
+    sym (ap code (to-come loop ∙ number-over _ _ _ loop.loop-j.at _ (omega arith) (omega arith)))
 
 pick-requires : tie.Need-pick-requires invariant-loop decreases-loop
 pick-requires c κs = search rules
 
-returns-4 : tie.Need-returns-4 invariant-loop decreases-loop
+returns-4 : tie.Need-returns invariant-loop decreases-loop
 returns-4 c =
     let loop = c.before.before.before in
-    c.pick.ensures ∙ sym (ap code (to-come loop ∙ number-end _ _ _ loop.loop.at _ (omega arith) (omega arith)))
+    c.pick.ensures ∙ sym (ap code (to-come loop ∙ number-end _ _ _ loop.loop-j.at _ (omega arith) (omega arith)))
 
-pub lists-number-spec : {M : Type 1} → statement M
-lists-number-spec =
+pub lists_number_spec : {M : Type 1} → statement M
+lists_number_spec =
     tie.close
     (tie.spec
     invariant-loop

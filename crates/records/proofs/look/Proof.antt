@@ -16,84 +16,84 @@ use Rattle.records.proofs.Lists.{largest_last}
 use Rattle.records.proofs.look.Statement.{statement}
 use Rattle.records.proofs.look.Tie as tie
 
-abbrev invariant-loop : tie.invariant-loop
+abbrev invariant-loop : tie.invariant-loop-at
 invariant-loop list limit last₀ at₀ last at =
     (at ≤ length list)
     × (any (leb limit) (words list) ≡ any (leb limit) (last ∷ words (drop at list)))
     × (ascending (words list) ≡ ascending (last ∷ words (drop at list)))
 
-abbrev decreases-loop : tie.decreases-loop
+abbrev decreases-loop : tie.decreases-loop-at
 decreases-loop list limit last₀ at₀ last at = length list - at
 
 -- no number
-returns : tie.Need-returns invariant-loop decreases-loop
+returns : tie.Need-returns-then-list-lt2 invariant-loop decreases-loop
 unfolding any ascending
 returns c =
-    let none = words-none c.before.before.args.list.now c.if1.true in
+    let none = words-none c.before.before.args.list.now c.if-list-lt2.true in
     (rw none refl, rw none refl)
 
-word-at-requires : tie.Need-word-at-requires invariant-loop decreases-loop
+word-at-requires : tie.Need-word_at-last-requires invariant-loop decreases-loop
 word-at-requires c κs = omega arith
 
-loop-holds : tie.Need-loop-init invariant-loop decreases-loop
+loop-holds : tie.Need-loop-at-init invariant-loop decreases-loop
 loop-holds c =
     let list = c.before.before.before.args.list.now in
-    let two = c.before.if1.false in
-    let first : words list ≡ c.word_at.result ∷ words (drop 2 list) = rw c.word_at.ensures (words-two list two) in
+    let two = c.before.if-list-lt2.false in
+    let first : words list ≡ c.word_at-last.result ∷ words (drop 2 list) = rw c.word_at-last.ensures (words-two list two) in
     (two, rw first, rw first)
 
-sub-loop : tie.Need-overflow-sub-loop invariant-loop decreases-loop
+sub-loop : tie.Need-overflow_sub-list invariant-loop decreases-loop
 sub-loop c = omega arith
 
-word-at-requires-2 : tie.Need-word-at-requires-2 invariant-loop decreases-loop
+word-at-requires-2 : tie.Need-word_at-f-requires invariant-loop decreases-loop
 word-at-requires-2 c κs = omega arith
 
 reaches-requires : tie.Need-reaches-requires invariant-loop decreases-loop
 reaches-requires c κs = search rules
 
 -- In a turn: the number at hand, and those from two bytes further on.
-module _ (c : tie.After-word-at2 invariant-loop decreases-loop) where
+module _ (c : tie.After-word_at-f invariant-loop decreases-loop) where
   abbrev list : List ℕ
   list = c.before.before.before.before.before.before.args.list.now
 
   abbrev at : ℕ
-  at = c.before.before.loop.at
+  at = c.before.before.loop-at.at
 
-  next : words (drop at list) ≡ c.word-at2.result ∷ words (drop (at + 2) list)
-  next = words-at list at (rw length-drop (omega arith)) ∙ rw (← c.word-at2.ensures)
+  next : words (drop at list) ≡ c.word_at-f.result ∷ words (drop (at + 2) list)
+  next = words-at list at (rw length-drop (omega arith)) ∙ rw (← c.word_at-f.ensures)
 
 -- a number that is not above the last breaks the order
-broken : (c : tie.Then2 invariant-loop decreases-loop) → ascending (words (list c.before)) ≡ false
+broken : (c : tie.Then-f-last invariant-loop decreases-loop) → ascending (words (list c.before)) ≡ false
 unfolding ascending
-broken c = c.before.before.before.loop.invariant.2 ∙ rw (next c.before, le-ltb _ _ c.if2.true)
+broken c = c.before.before.before.loop-at.invariant.2 ∙ rw (next c.before, le-ltb _ _ c.if-f-last.true)
 
-returns-2 : tie.Need-returns-2 invariant-loop decreases-loop
+returns-2 : tie.Need-returns-then-f-last invariant-loop decreases-loop
 returns-2 c =
     let known = c.before.before.before.before.before.before.before in
     let args = known.before.args in
-    let all = words-end args.limit args.list.now known.shared-slice-known.given in
+    let all = words-end args.limit args.list.now known.shared_slice_known-1.given in
     (c.reaches.ensures ∙ all, ap not (sym (broken c.before)))
 
-add_at : tie.Need-overflow-add-at invariant-loop decreases-loop
+add_at : tie.Need-overflow_add-at invariant-loop decreases-loop
 add_at c = omega arith
 
-loop-less : tie.Need-loop-smaller invariant-loop decreases-loop
+loop-less : tie.Need-loop-at-smaller invariant-loop decreases-loop
 loop-less c = omega arith
 
-loop-again : tie.Need-loop-preserved invariant-loop decreases-loop
+loop-again : tie.Need-loop-at-preserved invariant-loop decreases-loop
 unfolding any ascending
 loop-again c =
-    let inv = c.before.before.before.loop.invariant in (
+    let inv = c.before.before.before.loop-at.invariant in (
       omega arith,
-      inv.1 ∙ rw (next c.before) (largest_last _ _ _ _ c.if2.false),
-      inv.2 ∙ rw (next c.before, lt-ltb _ _ c.if2.false),
+      inv.1 ∙ rw (next c.before) (largest_last _ _ _ _ c.if-f-last.false),
+      inv.2 ∙ rw (next c.before, lt-ltb _ _ c.if-f-last.false),
     )
 
 -- no number is left: all ascend, and the last is the largest
-returns-3 : tie.Need-returns-3 invariant-loop decreases-loop
+returns-3 : tie.Need-returns invariant-loop decreases-loop
 unfolding any ascending
 returns-3 c =
-    let loop = c.before.loop in
+    let loop = c.before.loop-at in
     let list = c.before.before.before.before.before.args.list.now in
     let none : words (drop loop.at list) ≡ [] = words-none _ (rw length-drop (omega arith)) in
     (rw (loop.invariant.1, none, or-false (leb _ loop.last)) refl, rw (loop.invariant.2, none) refl)

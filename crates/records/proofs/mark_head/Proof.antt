@@ -20,7 +20,7 @@ head-words [] h = absurd (omega arith)
 head-words (a ∷ []) h = absurd (omega arith)
 head-words (a ∷ b ∷ rest) h = refl
 
-word-at-requires : tie.Need-word-at-requires
+word-at-requires : tie.Need-word_at-requires
 word-at-requires c κs = search rules
 
 mark-requires : tie.Need-mark-requires
@@ -33,5 +33,5 @@ returns c =
     let is = head-words s.args.body.now s.requires in
     c.mark.ensures ∙ rw (is, c.before.word_at.ensures, or-false (leb _ _))
 
-pub mark-head-spec : {M : Type 1} → statement M
-mark-head-spec = tie.close (tie.spec word-at-requires mark-requires returns)
+pub mark_head_spec : {M : Type 1} → statement M
+mark_head_spec = tie.close (tie.spec word-at-requires mark-requires returns)

@@ -6,7 +6,7 @@ use Rattle.records.proofs.Words.{length-words}
 use Rattle.records.proofs.mark_list.Statement.{statement}
 use Rattle.records.proofs.mark_list.Tie as tie
 
-look-requires : tie.Need-look-requires
+look-requires : tie.Need-look-seen-requires
 look-requires c κs = search rules
 
 mark-requires : tie.Need-mark-requires
@@ -15,8 +15,8 @@ mark-requires c κs = search rules
 returns : tie.Need-returns
 unfolding marked_by
 returns c =
-    let seen = c.before.before.look.ensures in
+    let seen = c.before.before.look-seen.ensures in
     c.mark.ensures ∙ rw (← length-words, seen.0, seen.1)
 
-pub mark-list-spec : {M : Type 1} → statement M
-mark-list-spec = tie.close (tie.spec look-requires mark-requires returns)
+pub mark_list_spec : {M : Type 1} → statement M
+mark_list_spec = tie.close (tie.spec look-requires mark-requires returns)

@@ -8,5 +8,5 @@ returns : tie.Need-returns
 unfolding over_two_lem
 returns c = simp (or_assoc, or-false)
 
-pub over-two-spec : {M : Type 1} → statement M
-over-two-spec = tie.close (tie.spec returns)
+pub over_two_spec : {M : Type 1} → statement M
+over_two_spec = tie.close (tie.spec returns)

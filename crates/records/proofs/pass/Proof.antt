@@ -10,31 +10,31 @@ use Rattle.records.proofs.pass.Tie as tie
 end-requires : tie.Need-end-requires
 end-requires c κs = search rules
 
-returns : tie.Need-returns
+returns : tie.Need-returns-then-code-lt32768
 unfolding after
-returns c = λ l e. c.end.ensures l e ∙ rw (lt-ltb _ _ c.before.if1.true)
+returns c = λ l e. c.end.ensures l e ∙ rw (lt-ltb _ _ c.before.if-code-lt32768.true)
 
-over-two-requires : tie.Need-over-two-requires
+over-two-requires : tie.Need-over_two-requires
 over-two-requires c κs = search rules
 
-mul-result : tie.Need-overflow-mul-result
+mul-result : tie.Need-overflow_mul-result
 mul-result c = search rules
 
-add-result : tie.Need-overflow-add-result
+add-result : tie.Need-overflow_add-result
 add-result c = search rules
 
-mul-result-2 : tie.Need-overflow-mul-result-2
+mul-result-2 : tie.Need-overflow_mul-result-else-over_two
 mul-result-2 c = search rules
 
-returns-2 : tie.Need-returns-2
+returns-2 : tie.Need-returns-then-over_two
 unfolding after bits_of
 returns-2 c = λ l e.
-    rw (le-ltb _ _ c.before.before.if1.false, ← c.before.over-two.ensures, c.if2.true) (omega arith)
+    rw (le-ltb _ _ c.before.before.if-code-lt32768.false, ← c.before.over_two.ensures, c.if-over_two.true) (omega arith)
 
-returns-3 : tie.Need-returns-3
+returns-3 : tie.Need-returns-else-over_two
 unfolding after bits_of
 returns-3 c = λ l e.
-    rw (le-ltb _ _ c.before.before.if1.false, ← c.before.over-two.ensures, c.if2.false) (omega arith)
+    rw (le-ltb _ _ c.before.before.if-code-lt32768.false, ← c.before.over_two.ensures, c.if-over_two.false) (omega arith)
 
 pub pass_spec : {M : Type 1} → statement M
 pass_spec =

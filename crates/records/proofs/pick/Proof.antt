@@ -7,15 +7,15 @@ use Rattle.records.specs.Marking.{picked}
 use Rattle.records.proofs.pick.Statement.{statement}
 use Rattle.records.proofs.pick.Tie as tie
 
-returns : tie.Need-returns
+returns : tie.Need-returns-then-marks-2
 unfolding code picked
 returns c = search rules
 
-returns-2 : tie.Need-returns-2
+returns-2 : tie.Need-returns-then-marks-3
 unfolding code picked
 returns-2 c = search rules
 
-returns-3 : tie.Need-returns-3
+returns-3 : tie.Need-returns-then-marks-4
 unfolding code picked
 returns-3 c = search rules
 
@@ -38,13 +38,13 @@ none-set false false true d e = absurd (true≢false e)
 none-set false true c d e = absurd (true≢false e)
 none-set true b c d e = absurd (true≢false e)
 
-returns-4 : tie.Need-returns-4
+returns-4 : tie.Need-returns-else-marks-4
 returns-4 c =
-    sym (only-order _ _ _ _ c.before.before.before.if1.true c.before.before.if2.false
-    c.before.if3.false c.if4.false)
+    sym (only-order _ _ _ _ c.before.before.before.if-marks.true c.before.before.if-marks-2.false
+    c.before.if-marks-3.false c.if-marks-4.false)
 
-returns-5 : tie.Need-returns-5
-returns-5 c = sym (none-set _ _ _ _ c.if1.false)
+returns-5 : tie.Need-returns-else-marks
+returns-5 c = sym (none-set _ _ _ _ c.if-marks.false)
 
 pub pick_spec : {M : Type 1} → statement M
 pick_spec = tie.close (tie.spec returns returns-2 returns-3 returns-4 returns-5)

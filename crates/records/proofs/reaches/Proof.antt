@@ -12,58 +12,58 @@ use Rattle.records.proofs.Words.{words-at, words-none}
 use Rattle.records.proofs.reaches.Statement.{statement}
 use Rattle.records.proofs.reaches.Tie as tie
 
-abbrev invariant-loop : tie.invariant-loop
+abbrev invariant-loop : tie.invariant-loop-at
 invariant-loop list limit end at₀ at =
     let reached : ℕ → Bool = λ x. leb limit x && ltb x end in
     (at ≤ length list) × (any reached (words list) ≡ any reached (words (drop at list)))
 
-abbrev decreases-loop : tie.decreases-loop
+abbrev decreases-loop : tie.decreases-loop-at
 decreases-loop list limit end at₀ at = length list - at
 
-loop-holds : tie.Need-loop-init invariant-loop decreases-loop
+loop-holds : tie.Need-loop-at-init invariant-loop decreases-loop
 loop-holds c = (zero-le, refl)
 
-sub-loop : tie.Need-overflow-sub-loop invariant-loop decreases-loop
+sub-loop : tie.Need-overflow_sub-list invariant-loop decreases-loop
 sub-loop c = omega arith
 
-word-at-requires : tie.Need-word-at-requires invariant-loop decreases-loop
+word-at-requires : tie.Need-word_at-x-requires invariant-loop decreases-loop
 word-at-requires c κs = omega arith
 
 -- In a turn: the number at hand, and those from two bytes further on.
-module _ (c : tie.After-word-at invariant-loop decreases-loop) where
+module _ (c : tie.After-word_at-x invariant-loop decreases-loop) where
   abbrev list : List ℕ
   list = c.before.before.before.before.args.list.now
 
   abbrev at : ℕ
-  at = c.before.before.loop.at
+  at = c.before.before.loop-at.at
 
-  next : words (drop at list) ≡ c.word_at.result ∷ words (drop (at + 2) list)
-  next = words-at list at (rw length-drop (omega arith)) ∙ rw (← c.word_at.ensures)
+  next : words (drop at list) ≡ c.word_at-x.result ∷ words (drop (at + 2) list)
+  next = words-at list at (rw length-drop (omega arith)) ∙ rw (← c.word_at-x.ensures)
 
-returns : tie.Need-returns invariant-loop decreases-loop
+returns : tie.Need-returns-then-limit-x invariant-loop decreases-loop
 unfolding any
-returns c = sym (c.before.before.before.loop.invariant.1 ∙ rw (next c.before, c.if1.true))
+returns c = sym (c.before.before.before.loop-at.invariant.1 ∙ rw (next c.before, c.if-limit-x.true))
 
-add_at : tie.Need-overflow-add-at invariant-loop decreases-loop
+add_at : tie.Need-overflow_add-at invariant-loop decreases-loop
 add_at c = omega arith
 
-loop-less : tie.Need-loop-smaller invariant-loop decreases-loop
+loop-less : tie.Need-loop-at-smaller invariant-loop decreases-loop
 loop-less c = omega arith
 
-loop-again : tie.Need-loop-preserved invariant-loop decreases-loop
+loop-again : tie.Need-loop-at-preserved invariant-loop decreases-loop
 unfolding any
 loop-again c =
-    (omega arith, c.before.before.before.loop.invariant.1 ∙ rw (next c.before, c.if1.false))
+    (omega arith, c.before.before.before.loop-at.invariant.1 ∙ rw (next c.before, c.if-limit-x.false))
 
-returns-2 : tie.Need-returns-2 invariant-loop decreases-loop
+returns-2 : tie.Need-returns invariant-loop decreases-loop
 unfolding any
 returns-2 c =
     let list = c.before.before.before.args.list.now in
-    let none : words (drop c.before.loop.at list) ≡ [] = words-none _ (rw length-drop (omega arith)) in
-    sym (c.before.loop.invariant.1 ∙ rw none)
+    let none : words (drop c.before.loop-at.at list) ≡ [] = words-none _ (rw length-drop (omega arith)) in
+    sym (c.before.loop-at.invariant.1 ∙ rw none)
 
-pub reaches-spec : {M : Type 1} → statement M
-reaches-spec =
+pub reaches_spec : {M : Type 1} → statement M
+reaches_spec =
     tie.close
     (tie.spec
     invariant-loop

@@ -11,48 +11,48 @@ use borrow.Author.Rules.{rules}
 use Rattle.records.proofs.record_at.Statement.{statement}
 use Rattle.records.proofs.record_at.Tie as tie
 
-sub-result : tie.Need-overflow-sub-result
+sub-result : tie.Need-slice_bounds-result-count
 sub-result c = search rules
 
-part-result-start : tie.Need-slice-bounds-result-start
+part-result-start : tie.Need-slice_bounds-result-start
 part-result-start c = search rules
 
-part-result-end : tie.Need-slice-bounds-result-end
+part-result-end : tie.Need-slice_bounds-result-end
 part-result-end c = search rules
 
-returns : tie.Need-returns
+returns : tie.Need-returns-then-section-at
 unfolding record_of_lem
 returns c =
     let section = c.before.before.before.args.section.now in
-    let past = drop_of_length-le section c.before.if1.true in
+    let past = drop_of_length-le section c.before.if-section-at.true in
     rest_of section (length section) ∙ drop-length section ∙ sym (ap record_of_lem past)
 
-sub-rest : tie.Need-overflow-sub-rest
+sub-rest : tie.Need-overflow_sub-rest
 sub-rest c = search rules
 
-part-rest-start : tie.Need-slice-bounds-rest-start
+part-rest-start : tie.Need-slice_bounds-rest-start
 part-rest-start c = search rules
 
-part-rest-end : tie.Need-slice-bounds-rest-end
+part-rest-end : tie.Need-slice_bounds-rest-end
 part-rest-end c = search rules
 
-returns-2 : tie.Need-returns-2
+returns-2 : tie.Need-returns-then-rest-lt2
 returns-2 c =
     let section = c.before.before.before.before.args.section.now in
     let at = c.before.before.before.before.args.at in
-    let short : length (drop at section) < 2 = rw rest_of at c.if2.true in
+    let short : length (drop at section) < 2 = rw rest_of at c.if-rest-lt2.true in
     rest_of section at ∙ sym (record-rest (drop at section) (omega arith))
 
-word-at-requires : tie.Need-word-at-requires
+word-at-requires : tie.Need-word_at-size-requires
 word-at-requires c κs = search rules
 
-sub-if3 : tie.Need-overflow-sub-if3
+sub-if3 : tie.Need-overflow_sub-rest
 sub-if3 c = search rules
 
-add-result : tie.Need-overflow-add-result
+add-result : tie.Need-overflow_add-result
 add-result c = search rules
 
-sub-result-2 : tie.Need-overflow-sub-result-2
+sub-result-2 : tie.Need-slice_bounds-result-count-then-size-rest
 sub-result-2 c = search rules
 
 part-result-start-2 : tie.Need-slice-bounds-result-start-2
@@ -61,28 +61,28 @@ part-result-start-2 c = search rules
 part-result-end-2 : tie.Need-slice-bounds-result-end-2
 part-result-end-2 c = search rules
 
-returns-3 : tie.Need-returns-3
+returns-3 : tie.Need-returns-then-size-rest
 returns-3 c =
     let section = c.before.before.before.before.before.before.before.args.section.now in
     let at = c.before.before.before.before.before.before.before.args.at in
     let rest = drop at section in
-    let size : c.before.before.word_at.result ≡ word rest = rw rest_of at c.before.before.word_at.ensures in
-    let long : 2 ≤ length rest = rw rest_of at c.before.before.before.if2.false in
-    let fits : c.before.before.word_at.result ≤ length rest - 2 = rw rest_of at c.before.if3.true in
-    let end : c.before.before.word_at.result + 2 - 0 ≡ 2 + word rest = omega arith in
+    let size : c.before.before.word_at-size.result-1 ≡ word rest = rw rest_of at c.before.before.word_at-size.ensures in
+    let long : 2 ≤ length rest = rw rest_of at c.before.before.before.if-rest-lt2.false in
+    let fits : c.before.before.word_at-size.result-1 ≤ length rest - 2 = rw rest_of at c.before.if-size-rest.true in
+    let end : c.before.before.word_at-size.result-1 + 2 - 0 ≡ 2 + word rest = omega arith in
     rw rest_of (ap (λ (n : ℕ). take n rest) end ∙ sym (record-fits rest (omega arith)))
 
-returns-4 : tie.Need-returns-4
+returns-4 : tie.Need-returns-else-size-rest
 returns-4 c =
     let section = c.before.before.before.before.before.before.args.section.now in
     let at = c.before.before.before.before.before.before.args.at in
     let rest = drop at section in
-    let size : c.before.word_at.result ≡ word rest = rw rest_of at c.before.word_at.ensures in
-    let beyond : length rest - 2 < c.before.word_at.result = rw rest_of at c.if3.false in
+    let size : c.before.word_at-size.result-1 ≡ word rest = rw rest_of at c.before.word_at-size.ensures in
+    let beyond : length rest - 2 < c.before.word_at-size.result-1 = rw rest_of at c.if-size-rest.false in
     rest_of section at ∙ sym (record-rest rest (omega arith))
 
-pub record-at-spec : {M : Type 1} → statement M
-record-at-spec =
+pub record_at_spec : {M : Type 1} → statement M
+record_at_spec =
     tie.close
     (tie.spec
     sub-result

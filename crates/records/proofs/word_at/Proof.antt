@@ -8,32 +8,32 @@ use Rattle.records.specs.Words.{word}
 use Rattle.records.proofs.word_at.Statement.{statement}
 use Rattle.records.proofs.word_at.Tie as tie
 
-shared-slice-read-wide : tie.Need-shared-slice-read-wide
+shared-slice-read-wide : tie.Need-bounds-bytes-at
 shared-slice-read-wide c = search rules
 
-wide-requires : tie.Need-wide-requires
+wide-requires : tie.Need-wide-high-requires
 wide-requires c κs = search rules
 
-add_wide : tie.Need-overflow-add-wide
+add_wide : tie.Need-overflow_add-at
 add_wide c = search rules
 
-shared-slice-read-wide-2 : tie.Need-shared-slice-read-wide-2
+shared-slice-read-wide-2 : tie.Need-bounds-bytes-at-2
 shared-slice-read-wide-2 c = search rules
 
-wide-requires-2 : tie.Need-wide-requires-2
+wide-requires-2 : tie.Need-wide-low-requires
 wide-requires-2 c κs = search rules
 
 -- both bytes are below 256
-small : (c : tie.After-wide2) → (c.before.before.wide.result < 256) × (c.wide2.result < 256)
+small : (c : tie.After-wide-low) → (c.before.before.wide-high.result < 256) × (c.wide-low.result < 256)
 small c =
     let at = c.before.before.before.before.before.args.at in
-    let byte = c.before.shared-slice-known3.given in
+    let byte = c.before.shared_slice_known-3-1.given in
     omega (arith, byte at, byte (at + 1))
 
-mul-result : tie.Need-overflow-mul-result
+mul-result : tie.Need-overflow_mul-result
 mul-result c = omega (arith, small c)
 
-add-result : tie.Need-overflow-add-result
+add-result : tie.Need-overflow_add-result
 add-result c = omega (arith, small c)
 
 returns : tie.Need-returns
@@ -43,8 +43,8 @@ returns c =
     let bytes = c.before.before.before.before.before.args.bytes.now in
     rw (get_or-drop at bytes 0 0, get_or-drop at bytes 1 0, add-zero) (omega arith)
 
-pub word-at-spec : {M : Type 1} → statement M
-word-at-spec =
+pub word_at_spec : {M : Type 1} → statement M
+word_at_spec =
     tie.close
     (tie.spec
     shared-slice-read-wide

@@ -1,6 +1,9 @@
 // The program: reads case.model and case.trace in the working folder and prints the verdict's line. A missing file
 // counts as empty. A file that cannot be opened or read to its end gives no line: standard error says which, so that it
 // can't pass for a shorter file.
+
+#![tactic(auto)]
+
 ghost use Rattle.std.specs.Prelude.{◌≡◌, ◌≤◌, length};
 ghost use Rattle.io.specs.Counts.{IsPrefixLen};
 ghost use Rattle.cantivorex.specs.Names.{name_of, kind_name_lem, Spells};

@@ -1,4 +1,7 @@
 // The verdict on a pair of files, and what it leaves in the lent buffers.
+
+#![tactic(auto)]
+
 ghost use Rattle.std.specs.Prelude.{◌≡◌};
 ghost use Rattle.checking.specs.Verdict.{Checked, CheckedIndexed, refused, no_space_lem};
 ghost use Rattle.running.specs.Outcomes.{nothing};

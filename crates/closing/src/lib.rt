@@ -1,6 +1,9 @@
 // Closing: the rounds of a state under a model's clauses, in a lent round table. The table is the only memory: in the
 // sweep for round r + 1 a body fact counts where its number is at most r, so that a head found in this sweep cannot
 // help in it.
+
+#![tactic(auto)]
+
 ghost use Rattle.std.specs.Prelude.{◌≡◌, false, cond, eqb, ◌+◌, ◌≤◌, ◌<◌, length, get_or, drop};
 ghost use Rattle.std.proofs.Math.Option.{none};
 ghost use Rattle.sets.specs.Sets.{every};

@@ -1,5 +1,8 @@
 // The library for C and Rust: seven functions on numbers and slices. None has a requires; that the areas lent are there
 // is the caller's to see to. include/cantivorex.h declares them for C.
+
+#![tactic(auto)]
+
 ghost use Rattle.std.specs.Prelude.{◌≤◌, ◌≡◌, [], ◌∷◌, length};
 ghost use Rattle.exports.specs.Exports.{ChecksOut, ChecksIndexedOut, ClosesOut, ClosesIndexedOut};
 ghost use Rattle.exports.specs.Exports.{RulesOut, HoldsOut, CountsOut, PartOut};

@@ -1,6 +1,9 @@
 // A set of numbers in the first `width` bytes of a lent buffer. Every operation takes any buffer, any width and any
 // number: a number whose byte lies outside the width or outside the buffer is not in the set and cannot be added.
 // A width is a u32, so that 8 * width, the most numbers that a set can have, fits a count.
+
+#![tactic(auto)]
+
 ghost use Rattle.std.specs.Prelude.{◌≡◌, ◌*◌, ◌%◌, ◌^◌, min};
 ghost use Rattle.sets.specs.Sets.{size};
 ghost use Rattle.facts.specs.Facts.{within, Added, Removed, Cleared, AnyFrom};

@@ -1,6 +1,9 @@
 // Reads model and trace files: the first fault of a pair with the part at fault, and what a judged file holds.
 // model: a model's faults; trace: a trace's; both: the pair in document 01's order, and the part at fault; held: what
 // is in judged files.
+
+#![tactic(auto)]
+
 pub mod both;
 pub mod held;
 pub mod model;

@@ -1,5 +1,8 @@
 // Every rule that can fire in the last state reached, in a lent list: what could have been done instead of a step that
 // is blocked. The state is the one that the check leaves; a rule is judged by the check's own test of conditions.
+
+#![tactic(auto)]
+
 ghost use Rattle.std.specs.Prelude.{◌≤◌, ◌≡◌, map, length, get_or};
 ghost use Rattle.std.proofs.Math.Option.{none};
 ghost use Rattle.sets.specs.Sets.{◌∈◌};

@@ -1,5 +1,8 @@
 // Whether one fact holds in the last state after a trace: that state is closed only up to the round in which the fact
 // arrives.
+
+#![tactic(auto)]
+
 ghost use Rattle.std.specs.Prelude.{◌≡◌, false, ◌<◌};
 ghost use Rattle.sections.specs.declared.Role.{Role};
 ghost use Rattle.files.specs.Files.{section_of, model_of_lem};

@@ -1,4 +1,7 @@
 // What judged records and sections hold: the lists of a rule or an attack state, and whether a number is among others.
+
+#![tactic(auto)]
+
 ghost use Rattle.std.specs.Prelude.{◌<◌, ◌≡◌, true};
 ghost use Rattle.sets.specs.Sets.{listed};
 ghost use Rattle.records.specs.Words.{words, ascending};

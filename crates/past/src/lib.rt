@@ -1,5 +1,8 @@
 // A formula from state to state: its value in each, with one bit kept for each code, so that no earlier state is looked
 // at again. Nothing is asked of the codes: what is no formula has a value that means nothing.
+
+#![tactic(auto)]
+
 ghost use Rattle.std.specs.Prelude.{◌≡◌, ◌≤◌, ◌<◌, length};
 ghost use Rattle.facts.specs.Facts.{room};
 ghost use Rattle.records.specs.Codes.{over_one_lem};

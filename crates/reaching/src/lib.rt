@@ -1,5 +1,8 @@
 // Where the steps of a judged pair lead: the search over the steps and their conditions for the first that is not met.
 // The caller has judged the pair and lends buffers of enough room.
+
+#![tactic(auto)]
+
 ghost use Rattle.std.specs.Prelude.{◌≡◌, true, [], ◌≤◌, length};
 ghost use Rattle.std.proofs.Math.Option.{none};
 ghost use Rattle.meaning.specs.Model.{start};

@@ -1,4 +1,7 @@
 // Reads records out of a lent section: where each starts, what is wrong with it, and the lists in it.
+
+#![tactic(auto)]
+
 ghost use Rattle.std.specs.Prelude.{◌≡◌, ◌+◌, ◌<◌, ◌≤◌, Bool, true, not, ◌&&◌, List, ◌∷◌, leb, ltb, length, take, drop};
 ghost use Rattle.sets.specs.Sets.{any};
 ghost use Rattle.records.specs.Words.{word, words, ascending};

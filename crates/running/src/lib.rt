@@ -1,5 +1,8 @@
 // The run of a judged pair: its steps, and what is then asked of the last state reached. The caller has judged the pair
 // and lends buffers of enough room.
+
+#![tactic(auto)]
+
 ghost use Rattle.std.specs.Prelude.{◌≡◌, false, [], ◌<◌, ◌≤◌, length};
 ghost use Rattle.std.proofs.Math.Option.{none};
 ghost use Rattle.meaning.specs.Run.{asked_of};

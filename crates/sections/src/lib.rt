@@ -1,5 +1,8 @@
 // One section of a file: its length, and the answer for its bytes by the section's role. head: a file's size and
 // version.
+
+#![tactic(auto)]
+
 ghost use Rattle.std.specs.Prelude.{◌≡◌, not, cond, ◌+◌, ◌≤◌, ◌<◌, eqb, length, drop, get_or};
 ghost use Rattle.records.specs.Records.{given, bare};
 ghost use Rattle.records.specs.Answers.{code, found};

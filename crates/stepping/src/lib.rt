@@ -1,6 +1,9 @@
 // How a state changes, in its lent buffers: the initial facts and names, and a rule's P, A and names. The caller has
 // judged the files.
 // conditions: the test of conditions in a round table and used names.
+
+#![tactic(auto)]
+
 ghost use Rattle.std.specs.Prelude.{◌*◌, ◌≤◌, ◌≡◌, true, ◌||◌, ◌&&◌, not, length};
 ghost use Rattle.sets.specs.Sets.{listed};
 ghost use Rattle.facts.specs.Facts.{within, members};

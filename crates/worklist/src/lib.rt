@@ -1,6 +1,9 @@
 // Closing by a worklist: facts are taken in the order in which they arrive, and each of a fact's body places is crossed
 // once, when the fact is taken. The index of body places (by fact and then clause) and where each fact's entries and
 // each clause's record start are lent; what each clause still lacks and the facts that have arrived are kept here.
+
+#![tactic(auto)]
+
 ghost use Rattle.std.specs.Prelude.{◌≡◌, ℕ, ◌+◌, ◌≤◌, ◌<◌, eqb, length, get_or, set};
 ghost use Rattle.records.specs.declared.Kind.{Kind};
 ghost use Rattle.lists.specs.Lists.{AllCut};

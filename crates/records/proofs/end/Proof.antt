@@ -28,7 +28,7 @@ loop-again : tie.Need-loop-above-preserved invariant-loop decreases-loop
 loop-again c = (
   omega arith,
   λ l e.
-      let (others, is, same) = c.before.loop-above.invariant.1 l e in
+      let (others, is, same) = c.loop-above.invariant.1 l e in
       let (next, half, later) = ended-even others (rw (← is) c.loop-above-test.true) in
       (next, rw is half, same ∙ later),
 )
@@ -38,7 +38,7 @@ sub-result c = omega arith
 
 returns : tie.Need-returns invariant-loop decreases-loop
 returns c = λ l e.
-    let (others, is, same) = c.before.loop-above.invariant.1 l e in
+    let (others, is, same) = c.loop-above.invariant.1 l e in
     rw (is, same) (ended-odd others (rw (← is) c.loop-above-test.false))
 
 pub end_spec : {M : Type 1} → statement M

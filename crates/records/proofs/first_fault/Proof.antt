@@ -1,7 +1,5 @@
 -- `records::first_fault` meets its contract: each kind of record is judged by its own loop.
 use mathlib.Core.Path.{◌≡◌}
-use mathlib.Core.Logic.{⊎_elim}
-use native.Mathlib.Omega.{arith}
 use borrow.Author.Rules.{rules}
 use Rattle.records.specs.declared.Kind.TheVariants.{Formula}
 use Rattle.records.proofs.Judging.{judge-lists, judge-formula}
@@ -15,13 +13,11 @@ formulas-fault-requires : tie.Need-formulas_fault-requires
 formulas-fault-requires c κs = search rules
 
 returns : tie.Need-returns-in-Formula
-returns c = rw (c.before.enum_told-1.given.1, judge-formula) c.formulas_fault.ensures
+returns c = rw (c.in-Formula.is, judge-formula) c.formulas_fault.ensures
 
 -- the kind is one of the first four
-other : (c : tie.In_default) → c.before.before.args.kind ≡ Formula → ⊥
-other c e =
-    ⊎_elim (λ h. omega arith) (⊎_elim (λ h. omega arith) (⊎_elim (λ h. omega arith) (λ h. omega arith)))
-    (rw e at c.in-Formula.keys2)
+other : (c : tie.In_default) → c.args.kind ≡ Formula → ⊥
+other c = c.in_default.not-Formula
 
 lists-fault-requires : tie.Need-lists_fault-requires
 lists-fault-requires c κs = other c

@@ -25,16 +25,16 @@ is-whole-requires c κs = search rules
 
 returns : tie.Need-returns-then-not-is_whole
 unfolding judge_formula code
-returns c = rw (← c.before.is_whole.ensures, c.if-not-is_whole.true)
+returns c = rw (← c.is_whole.ensures, c.if-not-is_whole.true)
 
 -- the record is whole, and so has its length
-fits : (c : tie.Else-not-is_whole) → whole c.before.before.before.args.formula.now ≡ true
-fits c = sym c.before.is_whole.ensures ∙ not-false _ c.if-not-is_whole.false
+fits : (c : tie.Else-not-is_whole) → whole c.args.formula.now ≡ true
+fits c = sym c.is_whole.ensures ∙ c.if-not-is_whole.false
 
-long : (c : tie.Else-not-is_whole) → 2 ≤ length c.before.before.before.args.formula.now
+long : (c : tie.Else-not-is_whole) → 2 ≤ length c.args.formula.now
 unfolding whole
 long c =
-    let r = c.before.before.before.args.formula.now in
+    let r = c.args.formula.now in
     omega (arith, eqb-true (length r) (2 + word r) (fits c))
 
 sub-codes : tie.Need-slice_bounds-codes-count
@@ -50,7 +50,7 @@ returns-2 : tie.Need-returns-then-codes-eq1
 unfolding judge_formula code
 returns-2 c =
     let s = c.before.before in
-    let codes = drop 2 s.before.before.before.args.formula.now in
+    let codes = drop 2 s.args.formula.now in
     let is : odd codes ≡ true = odd_is codes ∙ eq-eqb _ _ (rw rest_of at c.if-codes-eq1.true) in
     rw (fits s, is)
 
@@ -76,7 +76,7 @@ module _ (c : tie.After-beyond-marks) where
 
   -- its codes are in twos
   even : odd (drop 2 formula) ≡ false
-  even = odd_is (drop 2 formula) ∙ ne_eqb _ _ (rw rest_of at c.before.if-codes-eq1.false)
+  even = odd_is (drop 2 formula) ∙ ne_eqb _ _ (rw rest_of at c.if-codes-eq1.false)
 
   counts : (c.beyond-marks.result.count || ltb 255 (length (take (length formula - 2) (drop 2 formula)) / 2))
       ≡ (leb (most Formula) s.args.n || ltb 255 (length (codes_in formula)))
@@ -100,7 +100,7 @@ returns-4 : tie.Need-returns-then-reaches
 unfolding judge_formula code
 returns-4 c =
     let b = c.before.before.before.before in
-    rw (fit b, even b, ← counts b, c.before.before.if-marks-codes.false, ← reach c.before, c.if-reaches.true)
+    rw (fit b, even b, ← counts b, c.if-marks-codes.false, ← reach c.before, c.if-reaches.true)
 
 is-formula-requires : tie.Need-is_formula-requires
 is-formula-requires c κs = search rules
@@ -117,9 +117,9 @@ last c =
       fit b,
       even b,
       ← counts b,
-      c.before.before.before.if-marks-codes.false,
+      c.if-marks-codes.false,
       ← reach c.before.before,
-      c.before.if-reaches.false,
+      c.if-reaches.false,
       is,
     )
 

@@ -37,19 +37,19 @@ returns : tie.Need-returns-then-number-ne0 invariant-loop decreases-loop
 returns c =
     let told = c.before in
     let turn = told.before.before in
-    let loop = turn.before.loop-at in
+    let loop = turn.loop-at in
     sym (loop.invariant.2
-    ∙ answer-fault _ _ loop.n loop.at _ told.before.record_at-formula.ensures turn.loop-at-test.true _
+    ∙ answer-fault _ _ loop.n loop.at _ told.record_at-formula.ensures turn.loop-at-test.true _
     (refused _ _ told.formula_number-number.ensures c.if-number-ne0.true))
 
 -- the place after the record at hand
 further : (c : tie.Else-number-ne0 invariant-loop decreases-loop)
     → let turn = c.before.before.before in
-    let next = turn.before.loop-at.at + length c.before.before.record_at-formula.result.now in
-    (turn.before.loop-at.at < next) × (next ≤ length turn.before.before.before.args.section.now)
+    let next = turn.loop-at.at + length c.record_at-formula.result.now in
+    (turn.loop-at.at < next) × (next ≤ length turn.args.section.now)
 further c =
     let turn = c.before.before.before in
-    place_after _ _ _ c.before.before.record_at-formula.ensures turn.loop-at-test.true
+    place_after _ _ _ c.record_at-formula.ensures turn.loop-at-test.true
 
 add_at : tie.Need-overflow_add-at invariant-loop decreases-loop
 add_at c = omega (arith, further c)
@@ -64,17 +64,17 @@ loop-again : tie.Need-loop-at-preserved invariant-loop decreases-loop
 loop-again c =
     let told = c.before in
     let turn = told.before.before in
-    let loop = turn.before.loop-at in (
+    let loop = turn.loop-at in (
       omega (arith, further c),
       (further c).1,
       loop.invariant.2
-          ∙ answer-next _ _ loop.n loop.at _ told.before.record_at-formula.ensures turn.loop-at-test.true
+          ∙ answer-next _ _ loop.n loop.at _ told.record_at-formula.ensures turn.loop-at-test.true
           (formula-passed _ _ _ (sym c.if-number-ne0.false ∙ told.formula_number-number.ensures)),
     )
 
 returns-2 : tie.Need-returns invariant-loop decreases-loop
 returns-2 c =
-    let loop = c.before.loop-at in
+    let loop = c.loop-at in
     sym (loop.invariant.2 ∙ answer-end _ _ loop.n loop.at c.loop-at-test.false)
 
 pub formulas_fault_spec : {M : Type 1} → statement M

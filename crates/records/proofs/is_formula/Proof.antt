@@ -40,13 +40,13 @@ word-at-requires c κs = omega arith
 -- In a turn: the code at hand, and those from two bytes further on.
 module _ (c : tie.After-word_at-code invariant-loop decreases-loop) where
   abbrev codes : List ℕ
-  codes = c.before.before.before.before.args.codes.now
+  codes = c.args.codes.now
 
   abbrev at : ℕ
-  at = c.before.before.loop-at.at
+  at = c.loop-at.at
 
-  abbrev come : Come codes c.before.before.loop-at.above at
-  come = c.before.before.loop-at.invariant.1
+  abbrev come : Come codes c.loop-at.above at
+  come = c.loop-at.invariant.1
 
   next : words (drop at codes) ≡ c.word_at-code.result ∷ words (drop (at + 2) codes)
   next = words-at codes at (rw length-drop (omega arith)) ∙ rw (← c.word_at-code.ensures)
@@ -60,7 +60,7 @@ returns c =
     sym (same t ∙ left-stops (come t).above _ _ (rw (come t).number at c.if-above-code.true))
 
 pass-requires : tie.Need-pass-above-requires invariant-loop decreases-loop
-pass-requires c κs = (stops-not _ c.before.word_at-code.result c.if-above-code.false).0
+pass-requires c κs = (stops-not _ c.word_at-code.result c.if-above-code.false).0
 
 add_at : tie.Need-overflow_add-at invariant-loop decreases-loop
 add_at c = omega arith
@@ -71,16 +71,16 @@ loop-less c = omega arith
 loop-again : tie.Need-loop-at-preserved invariant-loop decreases-loop
 loop-again c =
     let t = c.before.before in
-    let stays = rw (come t).number at c.before.if-above-code.false in
+    let stays = rw (come t).number at c.if-above-code.false in
     let is = rw (come t).number at c.pass-above.ensures in
     let (above, number, later) = left-next (come t).above _ (words (drop (at t + 2) (codes t))) stays _ is in
     (omega arith, record { above = above; number = number; same = same t ∙ later })
 
 returns-2 : tie.Need-returns invariant-loop decreases-loop
 returns-2 c =
-    let codes = c.before.before.before.args.codes.now in
-    let come = c.before.loop-at.invariant.1 in
-    let none : words (drop c.before.loop-at.at codes) ≡ [] = words-none _ (rw length-drop (omega arith)) in
+    let codes = c.args.codes.now in
+    let come = c.loop-at.invariant.1 in
+    let none : words (drop c.loop-at.at codes) ≡ [] = words-none _ (rw length-drop (omega arith)) in
     sym (come.same ∙ rw (none, come.number) (left_end come.above))
 
 pub is_formula_spec : {M : Type 1} → statement M

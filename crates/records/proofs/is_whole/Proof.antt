@@ -14,7 +14,7 @@ use Rattle.records.proofs.is_whole.Tie as tie
 returns : tie.Need-returns-then-bytes-lt2
 unfolding whole
 returns c =
-    let bytes = c.before.before.args.bytes.now in
+    let bytes = c.args.bytes.now in
     sym (ne_eqb (length bytes) (2 + word bytes) (λ e. omega arith))
 
 word-at-requires : tie.Need-word_at-requires
@@ -23,7 +23,7 @@ word-at-requires c κs = search rules
 add-result : tie.Need-overflow_add-result
 add-result c =
     let known = c.before.before in
-    omega (arith, word_small known.before.args.bytes.now 0 known.shared_slice_known-1.given)
+    omega (arith, word_small known.args.bytes.now 0 known.shared_slice_known-1.given)
 
 returns-2 : tie.Need-returns
 unfolding whole

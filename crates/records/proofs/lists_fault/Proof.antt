@@ -47,18 +47,18 @@ module _ (c : tie.After-record_number-number invariant-loop decreases-loop) wher
   turn = c.before.before
 
   abbrev section : List ℕ
-  section = turn.before.before.before.args.section.now
+  section = turn.args.section.now
 
   abbrev at : ℕ
-  at = turn.before.loop-at.at
+  at = turn.loop-at.at
 
   abbrev whole : List ℕ
   whole = record_of_lem (drop at section)
 
   abbrev verdict : Option ℕ
   verdict =
-      judge_lists turn.before.before.before.args.kind turn.before.before.before.args.facts
-      turn.before.loop-at.n whole
+      judge_lists turn.args.kind turn.args.facts
+      turn.loop-at.n whole
 
   number_is : c.record_number-number.result ≡ code verdict
   number_is = rw rest_of at c.record_number-number.ensures
@@ -69,11 +69,11 @@ record-at-requires c κs = search rules
 returns : tie.Need-returns-then-number-ne0 invariant-loop decreases-loop
 returns c =
     let told = c.before.before in
-    let loop = (turn told).before.loop-at in
+    let loop = (turn told).loop-at in
     rw c.record_at-record.ensures
     (sym (loop.invariant.2
     ∙ answer-fault _ _ loop.n loop.at _ refl (turn told).loop-at-test.true _
-    (refused _ _ (number_is told) c.before.if-number-ne0.true)))
+    (refused _ _ (number_is told) c.if-number-ne0.true)))
 
 -- Where nothing is wrong with the record: its length tells its size, and so the next place.
 module _ (c : tie.Else-number-ne0 invariant-loop decreases-loop) where
@@ -108,7 +108,7 @@ loop-less c = omega (arith, next-is c, further c.before)
 loop-again : tie.Need-loop-at-preserved invariant-loop decreases-loop
 loop-again c =
     let told = c.before.before in
-    let loop = (turn told).before.loop-at in
+    let loop = (turn told).loop-at in
     rw (next-is c) (
       omega (arith, further c.before),
       (further c.before).1,
@@ -119,7 +119,7 @@ loop-again c =
 
 returns-2 : tie.Need-returns invariant-loop decreases-loop
 returns-2 c =
-    let loop = c.before.loop-at in
+    let loop = c.loop-at in
     sym (loop.invariant.2 ∙ answer-end _ _ loop.n loop.at c.loop-at-test.false)
 
 pub lists_fault_spec : {M : Type 1} → statement M

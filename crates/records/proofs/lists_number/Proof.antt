@@ -35,17 +35,17 @@ sub-if1 c = omega arith
 
 -- the number for the whole body is that for the lists still to come
 to-come : (c : tie.At-loop-j invariant-loop decreases-loop)
-    → let args = c.before.before.before.args in
+    → let args = c.args in
     picked_of (rows args.kind args.facts) args.marks (cut_lists (list_count_lem args.kind) args.body.now)
     ≡ picked_of (drop c.loop-j.j (rows args.kind args.facts)) c.loop-j.marks
-    (cut_lists (c.before.list_count-lists.result - c.loop-j.j) (drop c.loop-j.at args.body.now))
-to-come c = rw (← c.before.list_count-lists.ensures) c.loop-j.invariant.1
+    (cut_lists (c.list_count-lists.result - c.loop-j.j) (drop c.loop-j.at args.body.now))
+to-come c = rw (← c.list_count-lists.ensures) c.loop-j.invariant.1
 
 returns : tie.Need-returns-then-body-at-lt2 invariant-loop decreases-loop
 unfolding code
 returns c =
     let loop = c.before.before in
-    let lists = loop.before.list_count-lists.result in
+    let lists = loop.list_count-lists.result in
     sym (ap code (to-come loop
     ∙ number_short _ _ _ loop.loop-j.at _ (lists - (loop.loop-j.j + 1)) _ (omega arith) refl (omega arith)))
 
@@ -55,8 +55,8 @@ word-at-requires c κs = omega arith
 mul-size : tie.Need-overflow_mul-size invariant-loop decreases-loop
 mul-size c =
     let known = c.before.before.before.before.before in
-    let at = c.before.before.before.loop-j.at in
-    omega (arith, word_small known.before.args.body.now at known.shared_slice_known-1.given)
+    let at = c.loop-j.at in
+    omega (arith, word_small known.args.body.now at known.shared_slice_known-1.given)
 
 add_start : tie.Need-overflow_add-start invariant-loop decreases-loop
 add_start c = omega arith
@@ -68,8 +68,8 @@ returns-2 : tie.Need-returns-then-body-start invariant-loop decreases-loop
 unfolding code
 returns-2 c =
     let loop = c.before.before.before.before in
-    let lists = loop.before.list_count-lists.result in
-    let size = c.before.word_at-size.result * 2 in
+    let lists = loop.list_count-lists.result in
+    let size = c.word_at-size.result * 2 in
     sym (ap code (to-come loop
     ∙ number_short _ _ _ loop.loop-j.at _ (lists - (loop.loop-j.j + 1)) size
     (omega arith) (omega arith) (omega arith)))
@@ -89,7 +89,7 @@ part-mark-list-end c = omega arith
 row-of-requires : tie.Need-row_of-requires invariant-loop decreases-loop
 row-of-requires c κs =
     let loop = c.before.before.before.before.before in
-    counted-row _ _ loop.loop-j.j (omega (arith, loop.before.list_count-lists.ensures))
+    counted-row _ _ loop.loop-j.j (omega (arith, loop.list_count-lists.ensures))
 
 mark-list-requires : tie.Need-mark_list-marks-requires invariant-loop decreases-loop
 mark-list-requires c κs = search rules
@@ -103,12 +103,12 @@ loop-less c = omega arith
 loop-again : tie.Need-loop-j-preserved invariant-loop decreases-loop
 loop-again c =
     let loop = c.before.before.before.before.before.before.before in
-    let lists = loop.before.list_count-lists.result in
-    let size = c.before.before.before.before.word_at-size.result * 2 in (
+    let lists = loop.list_count-lists.result in
+    let size = c.word_at-size.result * 2 in (
       omega arith,
       loop.loop-j.invariant.1
           ∙ number-next _ _ _ loop.loop-j.at _ (lists - (loop.loop-j.j + 1)) size (omega arith) (omega arith)
-          _ _ c.mark_list-marks.result c.before.row_of.ensures (omega arith) c.mark_list-marks.ensures,
+          _ _ c.mark_list-marks.result c.row_of.ensures (omega arith) c.mark_list-marks.ensures,
     )
 
 returns-3 : tie.Need-returns-then-at-body invariant-loop decreases-loop

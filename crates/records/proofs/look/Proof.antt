@@ -29,7 +29,7 @@ decreases-loop list limit last₀ at₀ last at = length list - at
 returns : tie.Need-returns-then-list-lt2 invariant-loop decreases-loop
 unfolding any ascending
 returns c =
-    let none = words-none c.before.before.args.list.now c.if-list-lt2.true in
+    let none = words-none c.args.list.now c.if-list-lt2.true in
     (rw none refl, rw none refl)
 
 word-at-requires : tie.Need-word_at-last-requires invariant-loop decreases-loop
@@ -37,8 +37,8 @@ word-at-requires c κs = omega arith
 
 loop-holds : tie.Need-loop-at-init invariant-loop decreases-loop
 loop-holds c =
-    let list = c.before.before.before.args.list.now in
-    let two = c.before.if-list-lt2.false in
+    let list = c.args.list.now in
+    let two = c.if-list-lt2.false in
     let first : words list ≡ c.word_at-last.result ∷ words (drop 2 list) = rw c.word_at-last.ensures (words-two list two) in
     (two, rw first, rw first)
 
@@ -54,10 +54,10 @@ reaches-requires c κs = search rules
 -- In a turn: the number at hand, and those from two bytes further on.
 module _ (c : tie.After-word_at-f invariant-loop decreases-loop) where
   abbrev list : List ℕ
-  list = c.before.before.before.before.before.before.args.list.now
+  list = c.args.list.now
 
   abbrev at : ℕ
-  at = c.before.before.loop-at.at
+  at = c.loop-at.at
 
   next : words (drop at list) ≡ c.word_at-f.result ∷ words (drop (at + 2) list)
   next = words-at list at (rw length-drop (omega arith)) ∙ rw (← c.word_at-f.ensures)
@@ -65,12 +65,12 @@ module _ (c : tie.After-word_at-f invariant-loop decreases-loop) where
 -- a number that is not above the last breaks the order
 broken : (c : tie.Then-f-last invariant-loop decreases-loop) → ascending (words (list c.before)) ≡ false
 unfolding ascending
-broken c = c.before.before.before.loop-at.invariant.2 ∙ rw (next c.before, le-ltb _ _ c.if-f-last.true)
+broken c = c.loop-at.invariant.2 ∙ rw (next c.before, le-ltb _ _ c.if-f-last.true)
 
 returns-2 : tie.Need-returns-then-f-last invariant-loop decreases-loop
 returns-2 c =
     let known = c.before.before.before.before.before.before.before in
-    let args = known.before.args in
+    let args = known.args in
     let all = words-end args.limit args.list.now known.shared_slice_known-1.given in
     (c.reaches.ensures ∙ all, ap not (sym (broken c.before)))
 
@@ -83,7 +83,7 @@ loop-less c = omega arith
 loop-again : tie.Need-loop-at-preserved invariant-loop decreases-loop
 unfolding any ascending
 loop-again c =
-    let inv = c.before.before.before.loop-at.invariant in (
+    let inv = c.loop-at.invariant in (
       omega arith,
       inv.1 ∙ rw (next c.before) (largest_last _ _ _ _ c.if-f-last.false),
       inv.2 ∙ rw (next c.before, lt-ltb _ _ c.if-f-last.false),
@@ -93,8 +93,8 @@ loop-again c =
 returns-3 : tie.Need-returns invariant-loop decreases-loop
 unfolding any ascending
 returns-3 c =
-    let loop = c.before.loop-at in
-    let list = c.before.before.before.before.before.args.list.now in
+    let loop = c.loop-at in
+    let list = c.args.list.now in
     let none : words (drop loop.at list) ≡ [] = words-none _ (rw length-drop (omega arith)) in
     (rw (loop.invariant.1, none, or-false (leb _ loop.last)) refl, rw (loop.invariant.2, none) refl)
 

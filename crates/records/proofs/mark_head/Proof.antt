@@ -31,7 +31,7 @@ unfolding any ascending marked_by
 returns c =
     let s = c.before.before.before in
     let is = head-words s.args.body.now s.requires in
-    c.mark.ensures ∙ rw (is, c.before.word_at.ensures, or-false (leb _ _))
+    c.mark.ensures ∙ rw (is, c.word_at.ensures, or-false (leb _ _))
 
 pub mark_head_spec : {M : Type 1} → statement M
 mark_head_spec = tie.close (tie.spec word-at-requires mark-requires returns)

@@ -15,7 +15,7 @@ mark-requires c κs = search rules
 returns : tie.Need-returns
 unfolding marked_by
 returns c =
-    let seen = c.before.before.look-seen.ensures in
+    let seen = c.look-seen.ensures in
     c.mark.ensures ∙ rw (← length-words, seen.0, seen.1)
 
 pub mark_list_spec : {M : Type 1} → statement M

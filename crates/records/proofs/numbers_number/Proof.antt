@@ -19,8 +19,8 @@ pick-requires c κs = search rules
 
 returns-2 : tie.Need-returns
 returns-2 c =
-    let marked = c.before.mark_list in
-    let even = ne_eqb _ _ c.before.before.if-bytes-eq1.false in
+    let marked = c.mark_list in
+    let even = ne_eqb _ _ c.if-bytes-eq1.false in
     c.pick.ensures ∙ ap code (sym (bare-even _ _ _ marked.result even marked.ensures))
 
 pub numbers_number_spec : {M : Type 1} → statement M

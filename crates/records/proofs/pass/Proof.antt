@@ -12,7 +12,7 @@ end-requires c κs = search rules
 
 returns : tie.Need-returns-then-code-lt32768
 unfolding after
-returns c = λ l e. c.end.ensures l e ∙ rw (lt-ltb _ _ c.before.if-code-lt32768.true)
+returns c = λ l e. c.end.ensures l e ∙ rw (lt-ltb _ _ c.if-code-lt32768.true)
 
 over-two-requires : tie.Need-over_two-requires
 over-two-requires c κs = search rules
@@ -29,12 +29,12 @@ mul-result-2 c = search rules
 returns-2 : tie.Need-returns-then-over_two
 unfolding after bits_of
 returns-2 c = λ l e.
-    rw (le-ltb _ _ c.before.before.if-code-lt32768.false, ← c.before.over_two.ensures, c.if-over_two.true) (omega arith)
+    rw (le-ltb _ _ c.if-code-lt32768.false, ← c.over_two.ensures, c.if-over_two.true) (omega arith)
 
 returns-3 : tie.Need-returns-else-over_two
 unfolding after bits_of
 returns-3 c = λ l e.
-    rw (le-ltb _ _ c.before.before.if-code-lt32768.false, ← c.before.over_two.ensures, c.if-over_two.false) (omega arith)
+    rw (le-ltb _ _ c.if-code-lt32768.false, ← c.over_two.ensures, c.if-over_two.false) (omega arith)
 
 pub pass_spec : {M : Type 1} → statement M
 pass_spec =

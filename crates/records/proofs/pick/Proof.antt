@@ -40,8 +40,8 @@ none-set true b c d e = absurd (true≢false e)
 
 returns-4 : tie.Need-returns-else-marks-4
 returns-4 c =
-    sym (only-order _ _ _ _ c.before.before.before.if-marks.true c.before.before.if-marks-2.false
-    c.before.if-marks-3.false c.if-marks-4.false)
+    sym (only-order _ _ _ _ c.if-marks.true c.if-marks-2.false
+    c.if-marks-3.false c.if-marks-4.false)
 
 returns-5 : tie.Need-returns-else-marks
 returns-5 c = sym (none-set _ _ _ _ c.if-marks.false)

@@ -21,14 +21,14 @@ decreases-loop section n at₀ left₀ at left = left
 
 -- the record at hand starts within the section
 within : (c : tie.After-record_at-record invariant-loop decreases-loop)
-    → let section = c.before.before.before.before.before.args.section.now in
-    c.before.before.before.loop-left.at < length section
-within c = ltb-true _ _ c.before.if-at-section.true
+    → let section = c.args.section.now in
+    c.loop-left.at < length section
+within c = c.if-at-section.true
 
 -- and ends within it
 after : (c : tie.After-record_at-record invariant-loop decreases-loop)
-    → let section = c.before.before.before.before.before.args.section.now in
-    c.before.before.before.loop-left.at + length c.record_at-record.result.now ≤ length section
+    → let section = c.args.section.now in
+    c.loop-left.at + length c.record_at-record.result.now ≤ length section
 after c = (place_after _ _ _ c.record_at-record.ensures (within c)).1
 
 loop-holds : tie.Need-loop-left-init invariant-loop decreases-loop
@@ -49,14 +49,14 @@ loop-less c = omega arith
 loop-again : tie.Need-loop-left-preserved invariant-loop decreases-loop
 loop-again c = (
   after c,
-  c.before.before.before.loop-left.invariant.1 ∙ place-pass _ _ _ _ c.record_at-record.ensures (within c) (omega arith),
+  c.loop-left.invariant.1 ∙ place-pass _ _ _ _ c.record_at-record.ensures (within c) (omega arith),
 )
 
 returns : tie.Need-returns-else-at-section invariant-loop decreases-loop
-returns c = sym (c.before.before.loop-left.invariant.1 ∙ place_end _ _ _ (ltb-false _ _ c.if-at-section.false))
+returns c = sym (c.loop-left.invariant.1 ∙ place_end _ _ _ c.if-at-section.false)
 
 returns-2 : tie.Need-returns-after-loop-left invariant-loop decreases-loop
-returns-2 c = sym (c.before.loop-left.invariant.1 ∙ place_none _ _ c.before.loop-left.left (omega arith))
+returns-2 c = sym (c.loop-left.invariant.1 ∙ place_none _ _ c.loop-left.left (omega arith))
 
 pub place_spec : {M : Type 1} → statement M
 place_spec =

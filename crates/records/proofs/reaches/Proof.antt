@@ -32,17 +32,17 @@ word-at-requires c κs = omega arith
 -- In a turn: the number at hand, and those from two bytes further on.
 module _ (c : tie.After-word_at-x invariant-loop decreases-loop) where
   abbrev list : List ℕ
-  list = c.before.before.before.before.args.list.now
+  list = c.args.list.now
 
   abbrev at : ℕ
-  at = c.before.before.loop-at.at
+  at = c.loop-at.at
 
   next : words (drop at list) ≡ c.word_at-x.result ∷ words (drop (at + 2) list)
   next = words-at list at (rw length-drop (omega arith)) ∙ rw (← c.word_at-x.ensures)
 
 returns : tie.Need-returns-then-limit-x invariant-loop decreases-loop
 unfolding any
-returns c = sym (c.before.before.before.loop-at.invariant.1 ∙ rw (next c.before, c.if-limit-x.true))
+returns c = sym (c.loop-at.invariant.1 ∙ rw (next c.before, c.if-limit-x.true))
 
 add_at : tie.Need-overflow_add-at invariant-loop decreases-loop
 add_at c = omega arith
@@ -53,14 +53,14 @@ loop-less c = omega arith
 loop-again : tie.Need-loop-at-preserved invariant-loop decreases-loop
 unfolding any
 loop-again c =
-    (omega arith, c.before.before.before.loop-at.invariant.1 ∙ rw (next c.before, c.if-limit-x.false))
+    (omega arith, c.loop-at.invariant.1 ∙ rw (next c.before, c.if-limit-x.false))
 
 returns-2 : tie.Need-returns invariant-loop decreases-loop
 unfolding any
 returns-2 c =
-    let list = c.before.before.before.args.list.now in
-    let none : words (drop c.before.loop-at.at list) ≡ [] = words-none _ (rw length-drop (omega arith)) in
-    sym (c.before.loop-at.invariant.1 ∙ rw none)
+    let list = c.args.list.now in
+    let none : words (drop c.loop-at.at list) ≡ [] = words-none _ (rw length-drop (omega arith)) in
+    sym (c.loop-at.invariant.1 ∙ rw none)
 
 pub reaches_spec : {M : Type 1} → statement M
 reaches_spec =

@@ -23,11 +23,11 @@ part-result-end c = search rules
 returns : tie.Need-returns-then-section-at
 unfolding record_of_lem
 returns c =
-    let section = c.before.before.before.args.section.now in
-    let past = drop_of_length-le section c.before.if-section-at.true in
+    let section = c.args.section.now in
+    let past = drop_of_length-le section c.if-section-at.true in
     rest_of section (length section) ∙ drop-length section ∙ sym (ap record_of_lem past)
 
-sub-rest : tie.Need-overflow_sub-rest
+sub-rest : tie.Need-slice_bounds-rest-count
 sub-rest c = search rules
 
 part-rest-start : tie.Need-slice_bounds-rest-start
@@ -38,8 +38,8 @@ part-rest-end c = search rules
 
 returns-2 : tie.Need-returns-then-rest-lt2
 returns-2 c =
-    let section = c.before.before.before.before.args.section.now in
-    let at = c.before.before.before.before.args.at in
+    let section = c.args.section.now in
+    let at = c.args.at in
     let short : length (drop at section) < 2 = rw rest_of at c.if-rest-lt2.true in
     rest_of section at ∙ sym (record-rest (drop at section) (omega arith))
 
@@ -55,30 +55,30 @@ add-result c = search rules
 sub-result-2 : tie.Need-slice_bounds-result-count-then-size-rest
 sub-result-2 c = search rules
 
-part-result-start-2 : tie.Need-slice-bounds-result-start-2
+part-result-start-2 : tie.Need-slice_bounds-result-start-then-size-rest
 part-result-start-2 c = search rules
 
-part-result-end-2 : tie.Need-slice-bounds-result-end-2
+part-result-end-2 : tie.Need-slice_bounds-result-end-then-size-rest
 part-result-end-2 c = search rules
 
 returns-3 : tie.Need-returns-then-size-rest
 returns-3 c =
-    let section = c.before.before.before.before.before.before.before.args.section.now in
-    let at = c.before.before.before.before.before.before.before.args.at in
+    let section = c.args.section.now in
+    let at = c.args.at in
     let rest = drop at section in
-    let size : c.before.before.word_at-size.result-1 ≡ word rest = rw rest_of at c.before.before.word_at-size.ensures in
-    let long : 2 ≤ length rest = rw rest_of at c.before.before.before.if-rest-lt2.false in
-    let fits : c.before.before.word_at-size.result-1 ≤ length rest - 2 = rw rest_of at c.before.if-size-rest.true in
-    let end : c.before.before.word_at-size.result-1 + 2 - 0 ≡ 2 + word rest = omega arith in
+    let size : c.word_at-size.result ≡ word rest = rw rest_of at c.word_at-size.ensures in
+    let long : 2 ≤ length rest = rw rest_of at c.if-rest-lt2.false in
+    let fits : c.word_at-size.result ≤ length rest - 2 = rw rest_of at c.if-size-rest.true in
+    let end : c.word_at-size.result + 2 - 0 ≡ 2 + word rest = omega arith in
     rw rest_of (ap (λ (n : ℕ). take n rest) end ∙ sym (record-fits rest (omega arith)))
 
 returns-4 : tie.Need-returns-else-size-rest
 returns-4 c =
-    let section = c.before.before.before.before.before.before.args.section.now in
-    let at = c.before.before.before.before.before.before.args.at in
+    let section = c.args.section.now in
+    let at = c.args.at in
     let rest = drop at section in
-    let size : c.before.word_at-size.result-1 ≡ word rest = rw rest_of at c.before.word_at-size.ensures in
-    let beyond : length rest - 2 < c.before.word_at-size.result-1 = rw rest_of at c.if-size-rest.false in
+    let size : c.word_at-size.result ≡ word rest = rw rest_of at c.word_at-size.ensures in
+    let beyond : length rest - 2 < c.word_at-size.result = rw rest_of at c.if-size-rest.false in
     rest_of section at ∙ sym (record-rest rest (omega arith))
 
 pub record_at_spec : {M : Type 1} → statement M

@@ -24,7 +24,7 @@ without K F n bytes h = rw (lists_are, first-none K bytes h)
 
 returns : tie.Need-returns-then-rest-lt2
 returns c =
-    let args = c.before.before.args in
+    let args = c.args in
     sym (without args.kind args.facts args.n args.rest.now (omega arith))
 
 word-at-requires : tie.Need-word_at-size-requires
@@ -35,8 +35,8 @@ sub-if2 c = search rules
 
 returns-2 : tie.Need-returns-then-rest-size
 returns-2 c =
-    let args = c.before.before.before.before.args in
-    sym (without args.kind args.facts args.n args.rest.now (omega (arith, c.before.word_at-size.ensures)))
+    let args = c.args in
+    sym (without args.kind args.facts args.n args.rest.now (omega (arith, c.word_at-size.ensures)))
 
 add_body : tie.Need-overflow_add-body
 add_body c = search rules
@@ -64,8 +64,8 @@ lists-number-requires c κs = search rules
 
 -- one whose length does fit, of a kind whose bytes are known to be cut so
 fitted : (c : tie.After-beyond-marks) (K : Kind) (into : List ℕ → Option (List (List ℕ)))
-    → let args = c.before.before.before.before.before.before.args in
-    let size = c.before.before.before.word_at-size.result in
+    → let args = c.args in
+    let size = c.word_at-size.result in
     let body = take (size + 2 - 2) (drop 2 args.rest.now) in
     args.kind ≡ K
     → cut K ≡ into
@@ -73,7 +73,7 @@ fitted : (c : tie.After-beyond-marks) (K : Kind) (into : List ℕ → Option (Li
     ≡ code (judge_lists args.kind args.facts args.n (record_of_lem args.rest.now))
 fitted c K into kind cuts =
     let got = c.before.before.before in
-    let rest = got.before.before.before.args.rest.now in
+    let rest = got.args.rest.now in
     let size : got.word_at-size.result + 2 - 2 ≡ word rest = omega (arith, got.word_at-size.ensures) in
     rw (size, c.beyond-marks.ensures, kind, lists_are, first-cut K rest (omega arith), cuts)
 
@@ -81,18 +81,18 @@ returns-3 : tie.Need-returns-then-list_count-eq0
 unfolding cut
 returns-3 c =
     let counted = c.before.before in
-    let other = counted.before.before.before.before.before.before.before.requires in
+    let other = counted.requires in
     c.clause_number.ensures
     ∙ fitted counted.before Clause cut_clause
-    (uncounted _ other (sym counted.list_count.ensures ∙ c.before.if-list_count-eq0.true)) refl
+    (uncounted _ other (sym counted.list_count.ensures ∙ c.if-list_count-eq0.true)) refl
 
 returns-4 : tie.Need-returns
 returns-4 c =
     let counted = c.before.before in
-    let kind = counted.before.before.before.before.before.before.before.args.kind in
+    let kind = counted.args.kind in
     c.lists_number.ensures
     ∙ fitted counted.before kind (cut_lists (list_count_lem kind)) refl
-    (counted-cut kind (λ e. c.before.if-list_count-eq0.false (counted.list_count.ensures ∙ e)))
+    (counted-cut kind (λ e. c.if-list_count-eq0.false (counted.list_count.ensures ∙ e)))
 
 pub record_number_spec : {M : Type 1} → statement M
 record_number_spec =

@@ -10,7 +10,7 @@ use Rattle.records.proofs.row_of.Statement.{statement}
 use Rattle.records.proofs.row_of.Tie as tie
 
 returns : tie.Need-returns-then-j-ge3
-returns c = fourth _ _ _ c.before.requires c.if-j-ge3.true
+returns c = fourth _ _ _ c.requires c.if-j-ge3.true
 
 enum_told : tie.Need-enum_told-1
 enum_told c = search rules
@@ -29,36 +29,35 @@ enum-told-5 c = search rules
 
 returns-2 : tie.Need-returns-then-j-eq0
 unfolding rows
-returns-2 c = rw (c.before.enum_told-1.given.1, c.if-j-eq0.true)
+returns-2 c = rw (c.in-Clause.is, c.if-j-eq0.true)
 
 returns-3 : tie.Need-returns-else-j-eq0
 unfolding rows
 returns-3 c =
-    let kind = c.before.enum_told-1.given.1 in
-    let start = c.before.before.before.before in
-    let two : start.args.j < 2 = rw kind at start.requires in
-    let one : start.args.j ≡ 1 = omega arith in
+    let kind = c.in-Clause.is in
+    let two : c.args.j < 2 = rw kind at c.requires in
+    let one : c.args.j ≡ 1 = omega arith in
     rw (kind, one)
 
 returns-4 : tie.Need-returns-in-Rule
 unfolding rows
-returns-4 c = rw c.enum_told-in-Rule-1.given.1 (alike _ [] 3 c.before.before.before.args.j (omega arith))
+returns-4 c = rw c.in-Rule.is (alike _ [] 3 c.args.j (omega arith))
 
 returns-5 : tie.Need-returns-in-Maker
 unfolding rows
 returns-5 c =
-    rw c.enum_told-in-Maker-1.given.1 (alike _ (name_row ∷ []) 3 c.before.before.before.args.j (omega arith))
+    rw c.in-Maker.is (alike _ (name_row ∷ []) 3 c.args.j (omega arith))
 
 returns-6 : tie.Need-returns-in-Goal
 unfolding rows
 returns-6 c =
-    let kind = c.enum_told-in-Goal-1.given.1 in
-    rw kind (alike _ [] 2 _ (rw kind at c.before.before.before.requires))
+    let kind = c.in-Goal.is in
+    rw kind (alike _ [] 2 _ (rw kind at c.requires))
 
 -- a formula has no list
 returns-7 : tie.Need-returns-in-Formula
 unfolding rows
-returns-7 c = absurd (omega (arith, rw c.enum_told-in-Formula-1.given.1 at c.before.before.before.requires))
+returns-7 c = absurd (omega (arith, rw c.in-Formula.is at c.requires))
 
 pub row_of_spec : {M : Type 1} → statement M
 row_of_spec =

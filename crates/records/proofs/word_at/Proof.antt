@@ -24,10 +24,10 @@ wide-requires-2 : tie.Need-wide-low-requires
 wide-requires-2 c κs = search rules
 
 -- both bytes are below 256
-small : (c : tie.After-wide-low) → (c.before.before.wide-high.result < 256) × (c.wide-low.result < 256)
+small : (c : tie.After-wide-low) → (c.wide-high.result < 256) × (c.wide-low.result < 256)
 small c =
-    let at = c.before.before.before.before.before.args.at in
-    let byte = c.before.shared_slice_known-3-1.given in
+    let at = c.args.at in
+    let byte = c.shared_slice_known-3-1.given in
     omega (arith, byte at, byte (at + 1))
 
 mul-result : tie.Need-overflow_mul-result
@@ -39,8 +39,8 @@ add-result c = omega (arith, small c)
 returns : tie.Need-returns
 unfolding word
 returns c =
-    let at = c.before.before.before.before.before.args.at in
-    let bytes = c.before.before.before.before.before.args.bytes.now in
+    let at = c.args.at in
+    let bytes = c.args.bytes.now in
     rw (get_or-drop at bytes 0 0, get_or-drop at bytes 1 0, add-zero) (omega arith)
 
 pub word_at_spec : {M : Type 1} → statement M

@@ -5,7 +5,7 @@ use mathlib.Core.Logic.Iff
 use mathlib.Core.Logic.{◌↔◌}
 use mathlib.Core.Bool.{true, false}
 use mathlib.Core.List.Memᴰ
-use mathlib.Core.List.{List, [], ◌∷◌, ◌++◌}
+use mathlib.Core.List.{[], ◌∷◌, ◌++◌}
 use lib.Dec.{ltb}
 use Rattle.sets.specs.Sets.{listed, ◌∈◌}
 use Rattle.sets.proofs.Laws.{passes, listed-is}
@@ -24,6 +24,7 @@ of_four P {k} {l} {m} {n} a b d e c h = go ((listed-is (k ∷ l ∷ m ∷ n ∷ 
     go (Memᴰ.tail (Memᴰ.head i)) = rw i b
     go (Memᴰ.tail (Memᴰ.tail (Memᴰ.head i))) = rw i d
     go (Memᴰ.tail (Memᴰ.tail (Memᴰ.tail (Memᴰ.head i)))) = rw i e
+    go (Memᴰ.tail (Memᴰ.tail (Memᴰ.tail (Memᴰ.tail i)))) = elim i [ ]
 
 -- What is so of not, Yesterday, Once and Historically is so of every operator over one formula.
 pub of_one {ℓ} : (P : ℕ → Type ℓ) → P 32768 → P 32772 → P 32773 → P 32774 → (c : ℕ) → over_one_lem c ≡ true → P c

@@ -60,6 +60,7 @@ without_is x p f = (
 pub different-one : (p : ℕ → Bool) (xs : List ℕ) (x : ℕ) → x ∈ xs → T (p x)
     → different p xs ≡ suc (different (without x p) xs)
 unfolding different
+different-one p [] x m t = elim m [ ]
 different-one p (y ∷ ys) x m t =
     let q = without x p in
     let less : (f : ℕ) → T (q f) → T (p f) = λ f s. ((without_is x p f).0 s).0 in

@@ -1,7 +1,7 @@
 -- Closing that stops in the round where a fact arrives: what it shows, and how the worklist comes to it.
-use Prim.Native.Nat.{ℕ, suc, ◌≤◌, ◌<◌}
+use Prim.Native.Nat.{ℕ, ◌≤◌, ◌<◌}
 use native.Mathlib.Omega.{arith}
-use mathlib.Core.Path.{◌≡◌, refl, sym, ap, ◌∙◌, subst, fun_ext}
+use mathlib.Core.Path.{◌≡◌, refl, sym, ap, ◌∙◌, fun_ext}
 use mathlib.Core.Logic.{inl, inr}
 use mathlib.Core.Bool.{true, false, cond}
 use mathlib.Core.List.{List, [], ◌∷◌, ◌++◌, append_assoc}
@@ -14,13 +14,13 @@ use Rattle.meaning.specs.Rounds.{round, rounds, closure, round_number}
 use Rattle.meaning.specs.Early.{shown, rounds_for}
 use Rattle.meaning.specs.Worklist.{Work, places_in, taken, begun}
 use Rattle.meaning.specs.Working.{Known, Arrived, Toward, sooner}
-use Rattle.sets.proofs.Laws.{passes, fails, is_true, is_false, by-test, same_test, listed-is, below_or_from}
+use Rattle.sets.proofs.Laws.{passes, fails, is_true, is_false, by-test, listed-is, below_or_from}
 use Rattle.meaning.proofs.Closing.{round_mono, round_number-is}
 use Rattle.meaning.proofs.Places.{listed_in, listed_out, places-none}
 use Rattle.meaning.proofs.Arriving.{round_closes, number_le, number-rounds, rounds-few, closure-below}
 use Rattle.meaning.proofs.Arriving.{arrived-number, arrived-few, arrived-not, begun-sound, begun-near}
 use Rattle.meaning.proofs.Worklist.{take-first, taken-within, within-done, within-settled, within-after}
-use Rattle.meaning.proofs.Worklist.{rests_all, rests_closure, rests_number, rests_latest, rests_crossings}
+use Rattle.meaning.proofs.Worklist.{rests_closure, rests_number, rests_latest, rests_crossings}
 
 -- ---- what is shown
 

@@ -115,6 +115,22 @@ module _ (X used : Facts) (P N names : List ℕ) where
   none-outside : {L : List ℕ} → ((b : ℕ) → b ∈ L → T (X b)) → None (λ f. not (X f)) L
   none-outside h f m t = (negated (X f)).0 t (h f m)
 
+  -- The first unmet condition is what unmet computes.
+  unmet-first : {c : Condition} → FirstUnmet X used P N names c → unmet X used (conditions P N names) ≡ some c
+  unfolding Option-elim
+  unmet-first (absent {f} before rest e h n) =
+      rw (unmet_split, e, find-some (λ f. not (X f)) before rest f (none-outside h) ((negated (X f)).1 n))
+  unmet-first (present {f} h before rest e n t) =
+      rw (unmet_split, find_none (λ f. not (X f)) P (none-outside h), e, find-some X before rest f n t)
+  unmet-first (in_use_lem {n} h before rest e k t) =
+      rw (
+        unmet_split,
+        find_none (λ f. not (X f)) P (none-outside h.positive),
+        find_none X N h.negative,
+        e,
+        find-some used before rest n k t,
+      )
+
   -- Whatever is the first unmet condition, or none, is what unmet computes.
   pub unmet-from : (u : Option Condition) → Met u → unmet X used (conditions P N names) ≡ u
   unfolding Option-elim
@@ -125,20 +141,7 @@ module _ (X used : Facts) (P N names : List ℕ) where
         find_none X N h.negative,
         find_none used names k,
       )
-  unmet-from (some c) h = elim h [
-    | absent {f} met rest e h n ↦
-        rw (unmet_split, e, find-some (λ f. not (X f)) met rest f (none-outside h) ((negated (X f)).1 n))
-    | present {f} h met rest e n t ↦
-        rw (unmet_split, find_none (λ f. not (X f)) P (none-outside h), e, find-some X met rest f n t)
-    | in_use_lem {n} h met rest e k t ↦
-        rw (
-          unmet_split,
-          find_none (λ f. not (X f)) P (none-outside h.positive),
-          find_none X N h.negative,
-          e,
-          find-some used met rest n k t,
-        )
-  ]
+  unmet-from (some c) h = unmet-first h
 
   -- No condition is unmet exactly if the conditions are met.
   pub unmet-none : (unmet X used (conditions P N names) ≡ none) ↔ (Meets X P N × Fresh used names)

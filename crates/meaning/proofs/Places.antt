@@ -226,6 +226,7 @@ clause_in cs k = get_or_in cs k _
 
 -- Every clause has a number.
 pub clause-at : (cs : List Clause) (c : Clause) → c ∈ cs → (k : ℕ) × (k < length cs) × (clause_at cs k ≡ c)
+clause-at [] c m = elim m [ ]
 clause-at (d ∷ cs) c m = elim (Memᴰ.cases_cons m) [
   | inl e ↦ (0, omega arith, sym e)
   | inr i ↦ let (k, l, e) = clause-at cs c i in (suc k, omega arith, e)

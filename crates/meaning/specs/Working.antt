@@ -1,6 +1,6 @@
 -- What holds of the worklist (Worklist.antt) at every moment. No promise to the outside rests on these: they say that
 -- what it keeps fits its memory, and lead to what is promised.
-use Rattle.std.specs.Prelude.{ℕ, suc, ◌+◌, ◌≤◌, ◌<◌, ◌≡◌, Bool, false, not, cond, T, ltb, length, get_or}
+use Rattle.std.specs.Prelude.{ℕ, suc, ◌+◌, ◌≤◌, ◌<◌, ◌≡◌, false, not, cond, T, ltb, length, get_or}
 use mathlib.Core.List.{List, [], ◌∷◌, ◌++◌, Nodup, Pairwise}
 use Rattle.sets.specs.Sets.{Facts, listed, ◌∈◌}
 use Rattle.meaning.specs.Model.{Clause}

@@ -42,6 +42,7 @@ ascending-at (x ∷ xs) e (suc i) (suc j) l h =
 
 -- a number of the list has an index
 index_in : (xs : List ℕ) (x : ℕ) → x ∈ xs → (i : ℕ) × (i < length xs) × (get_or xs i 0 ≡ x)
+index_in [] x m = elim m [ ]
 index_in (y ∷ ys) x (Memᴰ.head e) = (0, omega arith, sym e)
 index_in (y ∷ ys) x (Memᴰ.tail m) = let (i, h, e) = index_in ys x m in (suc i, omega arith, e)
 

@@ -11,76 +11,76 @@ use borrow.Author.Rules.{rules}
 use Rattle.lists.proofs.has.Statement.{statement}
 use Rattle.lists.proofs.has.Tie as tie
 
-abbrev invariant-loop : tie.invariant-loop
+abbrev invariant-loop : tie.invariant-loop-low
 invariant-loop numbers n low₀ high₀ low high = Between (words numbers) n low high
 
-abbrev decreases-loop : tie.decreases-loop
+abbrev decreases-loop : tie.decreases-loop-low
 decreases-loop numbers n low₀ high₀ low high = high - low
 
 -- the number in the middle of what is left
-module _ (c : tie.In-loop invariant-loop decreases-loop) where
+module _ (c : tie.In-loop-low invariant-loop decreases-loop) where
   abbrev numbers : List ℕ
-  numbers = c.before.before.before.args.numbers.now
+  numbers = c.args.numbers.now
 
   abbrev middle : ℕ
-  middle = c.before.loop.low + (c.before.loop.high - c.before.loop.low) / 2
+  middle = c.loop-low.low + (c.loop-low.high - c.loop-low.low) / 2
 
   inside : middle < length (words numbers)
-  inside = omega (arith, c.loop-test.true, c.before.loop.invariant.ends)
+  inside = omega (arith, c.loop-low-test.true, c.loop-low.invariant.ends)
 
   in_bytes : 2 * middle + 2 ≤ length numbers
   in_bytes = omega (arith, inside, length-words numbers)
 
-is-middle : (c : tie.After-word-at invariant-loop decreases-loop)
-    → c.word_at.result ≡ get_or (words (numbers c.before)) (middle c.before) 0
-is-middle c = c.word_at.ensures ∙ sym (words-index (numbers c.before) (middle c.before) (inside c.before))
+is-middle : (c : tie.After-word_at-found invariant-loop decreases-loop)
+    → c.word_at-found.result ≡ get_or (words (numbers c.before)) (middle c.before) 0
+is-middle c = c.word_at-found.ensures ∙ sym (words-index (numbers c.before) (middle c.before) (inside c.before))
 
-loop-holds : tie.Need-loop-init invariant-loop decreases-loop
-loop-holds c = rw (← length-words c.before.args.numbers.now) (between_start _ _)
+loop-holds : tie.Need-loop-low-init invariant-loop decreases-loop
+loop-holds c = rw (← length-words c.args.numbers.now) (between_start _ _)
 
-sub-middle : tie.Need-overflow-sub-middle invariant-loop decreases-loop
+sub-middle : tie.Need-overflow_sub-middle invariant-loop decreases-loop
 sub-middle c = omega arith
 
-add-middle : tie.Need-overflow-add-middle invariant-loop decreases-loop
+add-middle : tie.Need-overflow_add-middle invariant-loop decreases-loop
 add-middle c = omega (arith, in_bytes c)
 
-mul-word-at : tie.Need-overflow-mul-word-at invariant-loop decreases-loop
+mul-word-at : tie.Need-overflow_mul-middle invariant-loop decreases-loop
 mul-word-at c = omega (arith, in_bytes c)
 
-word-at-requires : tie.Need-word-at-requires invariant-loop decreases-loop
+word-at-requires : tie.Need-word_at-found-requires invariant-loop decreases-loop
 word-at-requires c κs = in_bytes c
 
-returns : tie.Need-returns invariant-loop decreases-loop
-returns c = sym (found _ _ _ (inside c.before.before) (sym (is-middle c.before) ∙ c.if1.true))
+returns : tie.Need-returns-then-found-n invariant-loop decreases-loop
+returns c = sym (found _ _ _ (inside c.before.before) (sym (is-middle c.before) ∙ c.if-found-n.true))
 
-add_low : tie.Need-overflow-add-low invariant-loop decreases-loop
+add_low : tie.Need-overflow_add-low invariant-loop decreases-loop
 add_low c = omega (arith, in_bytes c.before.before.before)
 
-loop-less : tie.Need-loop-smaller invariant-loop decreases-loop
-loop-less c = omega (arith, c.before.before.before.loop-test.true)
+loop-less : tie.Need-loop-low-smaller-then-found-n-2 invariant-loop decreases-loop
+loop-less c = omega (arith, c.loop-low-test.true)
 
-loop-again : tie.Need-loop-preserved invariant-loop decreases-loop
+loop-again : tie.Need-loop-low-preserved-then-found-n-2 invariant-loop decreases-loop
 loop-again c =
     let asked = c.before.before in
     let loop = asked.before in
-    after _ _ loop.before.before.before.requires loop.before.loop.invariant _ (inside loop)
-    (omega (arith, is-middle asked, c.if2.true))
+    after _ _ loop.requires loop.loop-low.invariant _ (inside loop)
+    (omega (arith, is-middle asked, c.if-found-n-2.true))
 
-loop-less-2 : tie.Need-loop-smaller-2 invariant-loop decreases-loop
-loop-less-2 c = omega (arith, c.before.before.before.loop-test.true)
+loop-less-2 : tie.Need-loop-low-smaller invariant-loop decreases-loop
+loop-less-2 c = omega (arith, c.loop-low-test.true)
 
-loop-again-2 : tie.Need-loop-preserved-2 invariant-loop decreases-loop
+loop-again-2 : tie.Need-loop-low-preserved invariant-loop decreases-loop
 loop-again-2 c =
     let asked = c.before.before in
     let loop = asked.before in
-    before _ _ loop.before.before.before.requires loop.before.loop.invariant _ (inside loop)
-    (omega (arith, is-middle asked, c.if2.false, c.before.if1.false))
+    before _ _ loop.requires loop.loop-low.invariant _ (inside loop)
+    (omega (arith, is-middle asked, c.if-found-n-2.false, c.if-found-n.false))
 
-returns-2 : tie.Need-returns-2 invariant-loop decreases-loop
-returns-2 c = sym (not_found _ _ c.before.loop.invariant c.loop-test.false)
+returns-2 : tie.Need-returns invariant-loop decreases-loop
+returns-2 c = sym (not_found _ _ c.loop-low.invariant c.loop-low-test.false)
 
-pub has-spec : {M : Type 1} → statement M
-has-spec =
+pub has_spec : {M : Type 1} → statement M
+has_spec =
     tie.close
     (tie.spec
     invariant-loop

@@ -7,36 +7,35 @@ use borrow.Author.Rules.{rules}
 use Rattle.sections.proofs.long_at.Statement.{statement}
 use Rattle.sections.proofs.long_at.Tie as tie
 
-word-at-requires : tie.Need-word-at-requires
+word-at-requires : tie.Need-word_at-high-requires
 word-at-requires c κs = search rules
 
-add-word-at : tie.Need-overflow-add-word-at
+add-word-at : tie.Need-overflow_add-at
 add-word-at c = search rules
 
-word-at-requires-2 : tie.Need-word-at-requires-2
+word-at-requires-2 : tie.Need-word_at-low-requires
 word-at-requires-2 c κs = search rules
 
 -- how large the two numbers are
-small : (c : tie.After-word-at2) → (c.before.word_at.result < 65536) × (c.word-at2.result < 65536)
+small : (c : tie.After-word_at-low) → (c.word_at-high.result < 65536) × (c.word_at-low.result < 65536)
 small c =
-    let known = c.before.before in
-    let file = known.before.args.file.now in
-    let at = known.before.args.at in
-    let byte = known.shared-slice-known.given in (
-      rw c.before.word_at.ensures (word_small file at byte),
-      rw c.word-at2.ensures (word_small file (at + 2) byte),
+    let file = c.args.file.now in
+    let at = c.args.at in
+    let byte = c.shared_slice_known-1.given in (
+      rw c.word_at-high.ensures (word_small file at byte),
+      rw c.word_at-low.ensures (word_small file (at + 2) byte),
     )
 
-mul-result : tie.Need-overflow-mul-result
+mul-result : tie.Need-overflow_mul-result
 mul-result c = omega (arith, small c)
 
-add-result : tie.Need-overflow-add-result
+add-result : tie.Need-overflow_add-result
 add-result c = omega (arith, small c)
 
 returns : tie.Need-returns
 returns c =
-    let args = c.before.before.before.args in
+    let args = c.args in
     rw (long-at args.file.now args.at) (cc)
 
-pub long-at-spec : {M : Type 1} → statement M
-long-at-spec = tie.close (tie.spec word-at-requires add-word-at word-at-requires-2 mul-result add-result returns)
+pub long_at_spec : {M : Type 1} → statement M
+long_at_spec = tie.close (tie.spec word-at-requires add-word-at word-at-requires-2 mul-result add-result returns)

@@ -6,7 +6,7 @@ use borrow.Author.Rules.{rules}
 use Rattle.sections.proofs.numbers.Statement.{statement}
 use Rattle.sections.proofs.numbers.Tie as tie
 
-numbers-number-requires : tie.Need-numbers-number-requires
+numbers-number-requires : tie.Need-numbers_number-requires
 numbers-number-requires c κs = search rules
 
 whole-requires : tie.Need-whole-requires
@@ -14,11 +14,11 @@ whole-requires c κs = search rules
 
 returns : tie.Need-returns
 returns c =
-    let args = c.before.before.before.args in
+    let args = c.args in
     let bytes = args.bytes.now in
     c.whole.ensures
     ∙ rw (whole-fault (bare args.names args.limit bytes) bytes (bare-counted _ _ _)
-    c.before.numbers-number.ensures)
+    c.numbers_number.ensures)
 
-pub numbers-spec : {M : Type 1} → statement M
-numbers-spec = tie.close (tie.spec numbers-number-requires whole-requires returns)
+pub numbers_spec : {M : Type 1} → statement M
+numbers_spec = tie.close (tie.spec numbers-number-requires whole-requires returns)

@@ -4,13 +4,13 @@ use Rattle.sections.specs.Sections.{rule_kind_lem}
 use Rattle.sections.proofs.rule_kind.Statement.{statement}
 use Rattle.sections.proofs.rule_kind.Tie as tie
 
-returns : tie.Need-returns
+returns : tie.Need-returns-then-version-lt3
 unfolding rule_kind_lem
-returns c = rw (lt-leb 3 _ c.if1.true)
+returns c = rw (lt-leb 3 _ c.if-version-lt3.true)
 
-returns-2 : tie.Need-returns-2
+returns-2 : tie.Need-returns-else-version-lt3
 unfolding rule_kind_lem
-returns-2 c = rw (le-leb 3 _ c.if1.false)
+returns-2 c = rw (le-leb 3 _ c.if-version-lt3.false)
 
-pub rule-kind-spec : {M : Type 1} → statement M
-rule-kind-spec = tie.close (tie.spec returns returns-2)
+pub rule_kind_spec : {M : Type 1} → statement M
+rule_kind_spec = tie.close (tie.spec returns returns-2)

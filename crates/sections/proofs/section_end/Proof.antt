@@ -9,39 +9,39 @@ use borrow.Author.Rules.{rules}
 use Rattle.sections.proofs.section_end.Statement.{statement}
 use Rattle.sections.proofs.section_end.Tie as tie
 
-sub-if2 : tie.Need-overflow-sub-if2
+sub-if2 : tie.Need-overflow_sub-file
 sub-if2 c = search rules
 
-returns : tie.Need-returns
+returns : tie.Need-returns-then-file-at
 returns c =
-    let args = c.before.before.args in
+    let args = c.args in
     rw (beyond-fits args.file.now args.at
-    (⊎_elim (λ w. omega arith) (λ w. omega (arith, ltb-true)) c.if1.branch))
+    (⊎_elim (λ w. omega arith) (λ w. omega (arith, ltb-true)) c.then-file-at.branch-raw))
 
-add_start : tie.Need-overflow-add-start
+add_start : tie.Need-overflow_add-start
 add_start c = omega (arith, ltb-false)
 
-long-at-requires : tie.Need-long-at-requires
+long-at-requires : tie.Need-long_at-size-requires
 long-at-requires c κs = omega (arith, ltb-false)
 
-sub-if3 : tie.Need-overflow-sub-if3
+sub-if3 : tie.Need-overflow_sub-file-2
 sub-if3 c = omega (arith, ltb-false)
 
-returns-2 : tie.Need-returns-2
+returns-2 : tie.Need-returns-then-file-start
 returns-2 c =
-    let args = c.before.before.before.before.before.args in
-    rw (beyond-fits args.file.now args.at (omega (arith, c.before.long-at.ensures)))
+    let args = c.args in
+    rw (beyond-fits args.file.now args.at (omega (arith, c.long_at-size.ensures)))
 
-add-result : tie.Need-overflow-add-result
+add-result : tie.Need-overflow_add-result
 add-result c = omega (arith, ltb-false)
 
-returns-3 : tie.Need-returns-3
+returns-3 : tie.Need-returns
 unfolding end_at
 returns-3 c =
-    let args = c.before.before.before.before.before.args in
-    rw (within-fits args.file.now args.at (omega (arith, ltb-false, c.before.long-at.ensures)))
-    (omega (arith, c.before.long-at.ensures))
+    let args = c.args in
+    rw (within-fits args.file.now args.at (omega (arith, ltb-false, c.long_at-size.ensures)))
+    (omega (arith, c.long_at-size.ensures))
 
-pub section-end-spec : {M : Type 1} → statement M
-section-end-spec =
+pub section_end_spec : {M : Type 1} → statement M
+section_end_spec =
     tie.close (tie.spec sub-if2 returns add_start long-at-requires sub-if3 returns-2 add-result returns-3)

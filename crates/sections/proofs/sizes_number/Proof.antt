@@ -6,22 +6,22 @@ use borrow.Author.Rules.{rules}
 use Rattle.sections.proofs.sizes_number.Statement.{statement}
 use Rattle.sections.proofs.sizes_number.Tie as tie
 
-returns : tie.Need-returns
+returns : tie.Need-returns-then-bytes-ne2
 unfolding code sizes
-returns c = rw (ne_eqb _ _ c.if1.true)
+returns c = rw (ne_eqb _ _ c.if-bytes-ne2.true)
 
-word-at-requires : tie.Need-word-at-requires
+word-at-requires : tie.Need-word_at-requires
 word-at-requires c κs = search rules
 
-returns-2 : tie.Need-returns-2
+returns-2 : tie.Need-returns-then-word_at-gt4096
 unfolding code sizes
 returns-2 c =
-    rw (eq-eqb _ _ c.before.before.if1.false, lt-ltb _ _ (rw c.before.word_at.ensures at c.if2.true))
+    rw (eq-eqb _ _ c.if-bytes-ne2.false, lt-ltb _ _ (rw c.word_at.ensures at c.if-word_at-gt4096.true))
 
-returns-3 : tie.Need-returns-3
+returns-3 : tie.Need-returns
 unfolding code sizes
 returns-3 c =
-    rw (eq-eqb _ _ c.before.before.if1.false, le-ltb _ _ (rw c.before.word_at.ensures at c.if2.false))
+    rw (eq-eqb _ _ c.if-bytes-ne2.false, le-ltb _ _ (rw c.word_at.ensures at c.if-word_at-gt4096.false))
 
-pub sizes-number-spec : {M : Type 1} → statement M
-sizes-number-spec = tie.close (tie.spec returns word-at-requires returns-2 returns-3)
+pub sizes_number_spec : {M : Type 1} → statement M
+sizes_number_spec = tie.close (tie.spec returns word-at-requires returns-2 returns-3)

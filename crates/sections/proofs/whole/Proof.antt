@@ -5,13 +5,13 @@ use Rattle.records.specs.Answers.{found}
 use Rattle.sections.proofs.whole.Statement.{statement}
 use Rattle.sections.proofs.whole.Tie as tie
 
-returns : tie.Need-returns
+returns : tie.Need-returns-then-number-eq0
 unfolding found given
-returns c = rw (eq-eqb _ _ c.if1.true)
+returns c = rw (eq-eqb _ _ c.if-number-eq0.true)
 
-returns-2 : tie.Need-returns-2
+returns-2 : tie.Need-returns
 unfolding found given
-returns-2 c = rw (ne_eqb _ _ c.if1.false)
+returns-2 c = rw (ne_eqb _ _ c.if-number-eq0.false)
 
-pub whole-spec : {M : Type 1} → statement M
-whole-spec = tie.close (tie.spec returns returns-2)
+pub whole_spec : {M : Type 1} → statement M
+whole_spec = tie.close (tie.spec returns returns-2)

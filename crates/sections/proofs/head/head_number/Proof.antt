@@ -7,40 +7,37 @@ use borrow.Author.Rules.{rules}
 use Rattle.sections.proofs.head.head_number.Statement.{statement}
 use Rattle.sections.proofs.head.head_number.Tie as tie
 
-returns : tie.Need-returns
+returns : tie.Need-returns-then-most-file
 unfolding ◌or_else◌ fault_number too_long
-returns c = rw (lt-ltb _ _ c.if1.true)
+returns c = rw (lt-ltb _ _ c.if-most-file.true)
 
-version-of-requires : tie.Need-version-of-requires
+version-of-requires : tie.Need-version_of-version-requires
 version-of-requires c κs = search rules
 
-returns-2 : tie.Need-returns-2
+returns-2 : tie.Need-returns-then-version-lt1
 unfolding ◌or_else◌ fault_number too_long wrong_version
 returns-2 c =
-    let told = c.before in
-    rw (le-ltb _ _ told.before.if1.false, ← told.version_of.ensures, lt-ltb _ _ c.if2.true)
+    rw (le-ltb _ _ c.if-most-file.false, ← c.version_of-version.ensures, lt-ltb _ _ c.if-version-lt1.true)
 
-returns-3 : tie.Need-returns-3
+returns-3 : tie.Need-returns-then-latest-version
 unfolding ◌or_else◌ fault_number too_long wrong_version
 returns-3 c =
-    let told = c.before.before in
     rw (
-      le-ltb _ _ told.before.if1.false,
-      ← told.version_of.ensures,
-      le-ltb _ _ c.before.if2.false,
-      lt-ltb _ _ c.if3.true,
+      le-ltb _ _ c.if-most-file.false,
+      ← c.version_of-version.ensures,
+      le-ltb _ _ c.if-version-lt1.false,
+      lt-ltb _ _ c.if-latest-version.true,
     )
 
-returns-4 : tie.Need-returns-4
+returns-4 : tie.Need-returns
 unfolding ◌or_else◌ fault_number too_long wrong_version
 returns-4 c =
-    let told = c.before.before in
     rw (
-      le-ltb _ _ told.before.if1.false,
-      ← told.version_of.ensures,
-      le-ltb _ _ c.before.if2.false,
-      le-ltb _ _ c.if3.false,
+      le-ltb _ _ c.if-most-file.false,
+      ← c.version_of-version.ensures,
+      le-ltb _ _ c.if-version-lt1.false,
+      le-ltb _ _ c.if-latest-version.false,
     )
 
-pub head-number-spec : {M : Type 1} → statement M
-head-number-spec = tie.close (tie.spec returns version-of-requires returns-2 returns-3 returns-4)
+pub head_number_spec : {M : Type 1} → statement M
+head_number_spec = tie.close (tie.spec returns version-of-requires returns-2 returns-3 returns-4)

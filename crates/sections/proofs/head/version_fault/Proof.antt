@@ -11,11 +11,11 @@ of_size : {n m : ℕ} → n ≡ m
     → ◌≡◌ {A = Fault} (record { number = 3; start = 0; size = n }) (record { number = 3; start = 0; size = m })
 of_size e = λ i. record { number = 3; start = 0; size = e i }
 
-returns : tie.Need-returns
+returns : tie.Need-returns-then-file-eq0
 returns c = of_size (rw length-take (omega arith))
 
-returns-2 : tie.Need-returns-2
+returns-2 : tie.Need-returns-else-file-eq0
 returns-2 c = of_size (rw length-take (omega arith))
 
-pub version-fault-spec : {M : Type 1} → statement M
-version-fault-spec = tie.close (tie.spec returns returns-2)
+pub version_fault_spec : {M : Type 1} → statement M
+version_fault_spec = tie.close (tie.spec returns returns-2)

@@ -11,37 +11,36 @@ use Rattle.files.proofs.both.judge_files.Statement.{statement}
 use Rattle.files.proofs.both.judge_files.Tie as tie
 
 -- sizes and versions are right
-heads : (c : tie.After-enum-told)
-    → let args = c.before.before.before.before.before.args in
+heads : (c : tie.In-Fine)
+    → let args = c.args in
     heads_fault args.model.now args.trace.now ≡ none
-heads c = headed-fine _ c.before.before.judge-heads.ensures c.enum_told.given.1
+heads c = headed-fine _ c.judge_heads.ensures c.in-Fine.is
 
-judge-heads-requires : tie.Need-judge-heads-requires
+judge-heads-requires : tie.Need-judge_heads-requires
 judge-heads-requires c κs = search rules
 
-enum-known-number : tie.Need-enum-known-number
+enum-known-number : tie.Need-enum_known-number
 enum-known-number c = search rules
 
-enum_told : tie.Need-enum-told
+enum_told : tie.Need-enum_told-1
 enum_told c = search rules
 
-judge-shape-requires : tie.Need-judge-shape-requires
+judge-shape-requires : tie.Need-judge_shape-requires
 judge-shape-requires c κs = search rules
 
-enum-known-fault : tie.Need-enum-known-fault
+enum-known-fault : tie.Need-enum_known-fault
 enum-known-fault c = search rules
 
 blame-requires : tie.Need-blame-requires
 blame-requires c κs = search rules
 
-enum-known-counts : tie.Need-enum-known-counts
+enum-known-counts : tie.Need-enum_known-counts
 enum-known-counts c = search rules
 
-returns : tie.Need-returns
+returns : tie.Need-returns-in-Fault
 unfolding files_fault
 returns c =
-    let asked = c.before.before.before in
-    let blames = headed-fault _ _ _ asked.judge-heads.ensures c.before.number.given.1 in
+    let blames = headed-fault _ _ _ c.judge_heads.ensures c.in-Fault.is in
     blames_pair _
     (record {
       whose = blames.whose;
@@ -50,26 +49,23 @@ returns c =
       part-is = blames.part-is;
     })
 
-returns-2 : tie.Need-returns-2
+returns-2 : tie.Need-returns-in-Fault-judge_shape
 unfolding files_fault ◌or_else◌ paired blamed_number blamed_part
 returns-2 c =
-    let fault = c.before.before in
-    let asked = fault.before.before in
     rw (
       c.blame.ensures,
-      heads asked.before,
-      judged-fault _ _ _ asked.judge-shape.ensures fault.fault.given.1,
+      heads c.before.before.before,
+      judged-fault _ _ _ c.judge_shape.ensures c.in-Fault-judge_shape.is,
     )
 
-returns-3 : tie.Need-returns-3
+returns-3 : tie.Need-returns-in-Fine-judge_shape
 unfolding files_fault ◌or_else◌ paired
 returns-3 c =
-    let asked = c.before.before.before in
-    let (fine, counts) = judged-fine _ _ _ asked.judge-shape.ensures c.before.counts.given.1 in
-    rw (heads asked.before, fine, counts)
+    let (fine, counts) = judged-fine _ _ _ c.judge_shape.ensures c.in-Fine-judge_shape.is in
+    rw (heads c.before.before, fine, counts)
 
-pub judge-files-spec : {M : Type 1} → statement M
-judge-files-spec =
+pub judge_files_spec : {M : Type 1} → statement M
+judge_files_spec =
     tie.close
     (tie.spec
     judge-heads-requires

@@ -12,120 +12,111 @@ use borrow.Author.Rules.{rules}
 use Rattle.files.proofs.both.judge_heads.Statement.{statement}
 use Rattle.files.proofs.both.judge_heads.Tie as tie
 
-abbrev model_of : tie.After-head-number2 → List ℕ
-model_of c = c.before.before.before.before.args.model.now
+abbrev model_of : tie.After-head_number-trace_head → List ℕ
+model_of c = c.args.model.now
 
-abbrev trace-of : tie.After-head-number2 → List ℕ
-trace-of c = c.before.before.before.before.args.trace.now
+abbrev trace-of : tie.After-head_number-trace_head → List ℕ
+trace-of c = c.args.trace.now
 
 -- what the numbers for size and version say
-model-head : (c : tie.After-head-number2) → Head 65536 4 (model_of c) c.before.head-number.result
-model-head c = head-told 65536 4 (model_of c) c.before.head-number.ensures
+model-head : (c : tie.After-head_number-trace_head) → Head 65536 4 (model_of c) c.head_number-model_head.result
+model-head c = head-told 65536 4 (model_of c) c.head_number-model_head.ensures
 
-trace-head : (c : tie.After-head-number2) → Head 4096 1 (trace-of c) c.head-number2.result
-trace-head c = head-told 4096 1 (trace-of c) c.head-number2.ensures
+trace-head : (c : tie.After-head_number-trace_head) → Head 4096 1 (trace-of c) c.head_number-trace_head.result
+trace-head c = head-told 4096 1 (trace-of c) c.head_number-trace_head.ensures
 
 -- both files are short enough
-sizes : (c : tie.Else2)
+sizes : (c : tie.Else-trace_head-eq2)
     → (too_long 65536 (model_of c.before.before) ≡ none) × (too_long 4096 (trace-of c.before.before) ≡ none)
 sizes c = (
-  (model-head c.before.before).not-two c.before.if1.false,
-  (trace-head c.before.before).not-two c.if2.false,
+  (model-head c.before.before).not-two c.if-model_head-eq2.false,
+  (trace-head c.before.before).not-two c.if-trace_head-eq2.false,
 )
 
 -- the model's version is right
-version : (c : tie.Else3) → wrong_version 4 (model_of c.before.before.before) ≡ none
-version c = ((model-head c.before.before.before).other c.before.before.if1.false c.if3.false).1
+version : (c : tie.Else-model_head-eq3) → wrong_version 4 (model_of c.before.before.before) ≡ none
+version c = ((model-head c.before.before.before).other c.if-model_head-eq2.false c.if-model_head-eq3.false).1
 
-head-number-requires : tie.Need-head-number-requires
+head-number-requires : tie.Need-head_number-model_head-requires
 head-number-requires c κs = search rules
 
-head-number-requires-2 : tie.Need-head-number-requires-2
+head-number-requires-2 : tie.Need-head_number-trace_head-requires
 head-number-requires-2 c κs = search rules
 
-long-fault-requires : tie.Need-long-fault-requires
+long-fault-requires : tie.Need-long_fault-requires
 long-fault-requires c κs = search rules
 
 blame-requires : tie.Need-blame-requires
 blame-requires c κs = search rules
 
-returns : tie.Need-returns
+returns : tie.Need-returns-then-model_head-eq2
 unfolding heads_fault ◌or_else◌ headed blamed_number blamed_part
 returns c =
-    let l = c.before in
-    rw (c.blame.ensures, l.long-fault.ensures, (model-head l.before.before).two l.before.if1.true)
+    rw (c.blame.ensures, c.long_fault.ensures, (model-head c.before.before.before).two c.if-model_head-eq2.true)
 
-long-fault-requires-2 : tie.Need-long-fault-requires-2
+long-fault-requires-2 : tie.Need-long_fault-requires-then-trace_head-eq2
 long-fault-requires-2 c κs = search rules
 
-blame-requires-2 : tie.Need-blame-requires-2
+blame-requires-2 : tie.Need-blame-requires-then-trace_head-eq2
 blame-requires-2 c κs = search rules
 
-returns-2 : tie.Need-returns-2
+returns-2 : tie.Need-returns-then-trace_head-eq2
 unfolding heads_fault ◌or_else◌ headed blamed_number blamed_part
 returns-2 c =
-    let l = c.before in
-    let e = l.before.before in
     rw (
-      c.blame2.ensures,
-      l.long-fault2.ensures,
-      (model-head e.before).not-two e.if1.false,
-      (trace-head e.before).two l.before.if2.true,
+      c.blame-then-trace_head-eq2.ensures,
+      c.long_fault-then-trace_head-eq2.ensures,
+      (model-head c.before.before.before.before).not-two c.if-model_head-eq2.false,
+      (trace-head c.before.before.before.before).two c.if-trace_head-eq2.true,
     )
 
-version-fault-requires : tie.Need-version-fault-requires
+version-fault-requires : tie.Need-version_fault-requires
 version-fault-requires c κs = search rules
 
-blame-requires-3 : tie.Need-blame-requires-3
+blame-requires-3 : tie.Need-blame-requires-then-model_head-eq3
 blame-requires-3 c κs = search rules
 
-returns-3 : tie.Need-returns-3
+returns-3 : tie.Need-returns-then-model_head-eq3
 unfolding heads_fault ◌or_else◌ headed blamed_number blamed_part
 returns-3 c =
-    let l = c.before in
-    let e = l.before.before in
     rw (
-      c.blame3.ensures,
-      l.version-fault.ensures,
-      (sizes e).0,
-      (sizes e).1,
-      ((model-head e.before.before).three l.before.if3.true).1,
+      c.blame-then-model_head-eq3.ensures,
+      c.version_fault.ensures,
+      (sizes c.before.before.before).0,
+      (sizes c.before.before.before).1,
+      ((model-head c.before.before.before.before.before).three c.if-model_head-eq3.true).1,
     )
 
-version-fault-requires-2 : tie.Need-version-fault-requires-2
+version-fault-requires-2 : tie.Need-version_fault-requires-then-trace_head-eq3
 version-fault-requires-2 c κs = search rules
 
-blame-requires-4 : tie.Need-blame-requires-4
+blame-requires-4 : tie.Need-blame-requires-then-trace_head-eq3
 blame-requires-4 c κs = search rules
 
-returns-4 : tie.Need-returns-4
+returns-4 : tie.Need-returns-then-trace_head-eq3
 unfolding heads_fault ◌or_else◌ headed blamed_number blamed_part
 returns-4 c =
-    let l = c.before in
-    let e = l.before.before in
-    let h = e.before.before.before in
     rw (
-      c.blame4.ensures,
-      l.version-fault2.ensures,
-      (sizes e.before).0,
-      (sizes e.before).1,
-      version e,
-      ((trace-head h).three l.before.if4.true).1,
+      c.blame-then-trace_head-eq3.ensures,
+      c.version_fault-then-trace_head-eq3.ensures,
+      (sizes c.before.before.before.before).0,
+      (sizes c.before.before.before.before).1,
+      version c.before.before.before,
+      ((trace-head c.before.before.before.before.before.before).three c.if-trace_head-eq3.true).1,
     )
 
-returns-5 : tie.Need-returns-5
+returns-5 : tie.Need-returns
 unfolding heads_fault ◌or_else◌ headed blamed_number blamed_part
 returns-5 c =
-    let e = c.before.before in
     rw (
-      (sizes e).0,
-      (sizes e).1,
+      (sizes c.before.before).0,
+      (sizes c.before.before).1,
       version c.before,
-      ((trace-head e.before.before).other e.if2.false c.if4.false).1,
+      ((trace-head c.before.before.before.before).other c.if-trace_head-eq2.false c.if-trace_head-eq3.false).1,
     )
 
-pub judge-heads-spec : {M : Type 1} → statement M
-judge-heads-spec =
+pub judge_heads_spec : {M : Type 1} → statement M
+judge_heads_spec =
     tie.close
     (tie.spec
     head-number-requires

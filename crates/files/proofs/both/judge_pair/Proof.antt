@@ -7,23 +7,22 @@ use borrow.Author.Rules.{rules}
 use Rattle.files.proofs.both.judge_pair.Statement.{statement}
 use Rattle.files.proofs.both.judge_pair.Tie as tie
 
-judge-files-requires : tie.Need-judge-files-requires
+judge-files-requires : tie.Need-judge_files-requires
 judge-files-requires c κs = search rules
 
-enum-known-number : tie.Need-enum-known-number
+enum-known-number : tie.Need-enum_known-number
 enum-known-number c = search rules
 
-enum-known-counts : tie.Need-enum-known-counts
+enum-known-counts : tie.Need-enum_known-counts
 enum-known-counts c = search rules
 
-judge-steps-requires : tie.Need-judge-steps-requires
+judge-steps-requires : tie.Need-judge_steps-requires
 judge-steps-requires c κs = search rules
 
-returns : tie.Need-returns
+returns : tie.Need-returns-in-Fault
 unfolding pair_fault
 returns c =
-    let asked = c.before.before.before in
-    let blames = paired-fault _ _ _ _ asked.judge-files.ensures c.before.number.given.1 in
+    let blames = paired-fault _ _ _ _ c.judge_files.ensures c.in-Fault.is in
     blames_pair _
     (record {
       whose = blames.whose;
@@ -32,14 +31,13 @@ returns c =
       part-is = blames.part-is;
     })
 
-returns-2 : tie.Need-returns-2
+returns-2 : tie.Need-returns-in-Fine
 returns-2 c =
-    let counted = c.before.before in
-    let fine = paired-fine _ _ _ counted.before.before.judge-files.ensures counted.counts.given.1 in
-    c.judge-steps.ensures ∙ steps-after _ _ _ fine.0 fine.1
+    let fine = paired-fine _ _ _ c.judge_files.ensures c.in-Fine.is in
+    c.judge_steps.ensures ∙ steps-after _ _ _ fine.0 fine.1
 
-pub judge-pair-spec : {M : Type 1} → statement M
-judge-pair-spec =
+pub judge_pair_spec : {M : Type 1} → statement M
+judge_pair_spec =
     tie.close
     (tie.spec
     judge-files-requires

@@ -5,32 +5,31 @@ use borrow.Author.Rules.{rules}
 use Rattle.files.proofs.both.judge_steps.Statement.{statement}
 use Rattle.files.proofs.both.judge_steps.Tie as tie
 
-judge-trace-requires : tie.Need-judge-trace-requires
+judge-trace-requires : tie.Need-judge_trace-requires
 judge-trace-requires c κs = search rules
 
-enum-known-fault : tie.Need-enum-known-fault
+enum-known-fault : tie.Need-enum_known-fault
 enum-known-fault c = search rules
 
 blame-requires : tie.Need-blame-requires
 blame-requires c κs = search rules
 
-enum_told : tie.Need-enum-told
+enum_told : tie.Need-enum_told-1
 enum_told c = search rules
 
-returns : tie.Need-returns
+returns : tie.Need-returns-in-Fault
 unfolding paired blamed_number blamed_part
 returns c =
-    let fault = c.before.before in
     rw (
       c.blame.ensures,
-      passed-fault _ _ _ _ fault.before.before.judge-trace.ensures fault.fault.given.1,
+      passed-fault _ _ _ _ c.judge_trace.ensures c.in-Fault.is,
     )
 
-returns-2 : tie.Need-returns-2
+returns-2 : tie.Need-returns-in-To
 unfolding paired
-returns-2 c = rw (passed_to _ _ _ _ _ c.before.before.judge-trace.ensures c.enum_told.given.1).0
+returns-2 c = rw (passed_to _ _ _ _ _ c.judge_trace.ensures c.in-To.is).0
 
-pub judge-steps-spec : {M : Type 1} → statement M
-judge-steps-spec =
+pub judge_steps_spec : {M : Type 1} → statement M
+judge_steps_spec =
     tie.close
     (tie.spec judge-trace-requires enum-known-fault blame-requires enum_told returns returns-2)

@@ -17,25 +17,25 @@ other m t (suc (suc mark)) start size h k = refl
 cut-requires : tie.Need-cut-requires
 cut-requires c κs = search rules
 
-cut-requires-2 : tie.Need-cut-requires-2
+cut-requires-2 : tie.Need-cut-requires-then-mark-eq1
 cut-requires-2 c κs = search rules
 
-slice-aggregate-result : tie.Need-slice-aggregate-result
+slice-aggregate-result : tie.Need-slice_bounds-result-end
 slice-aggregate-result c = search rules
 
-returns : tie.Need-returns
+returns : tie.Need-returns-then-mark-eq0
 unfolding part_of bytes_at
-returns c = rw c.before.if1.true c.cut.ensures
+returns c = rw c.if-mark-eq0.true c.cut.ensures
 
-returns-2 : tie.Need-returns-2
+returns-2 : tie.Need-returns-then-mark-eq1
 unfolding part_of bytes_at
-returns-2 c = rw c.before.if2.true c.cut2.ensures
+returns-2 c = rw c.if-mark-eq1.true c.cut-then-mark-eq1.ensures
 
-returns-3 : tie.Need-returns-3
+returns-3 : tie.Need-returns-else-mark-eq1
 unfolding part_of
-returns-3 c = sym (other _ _ _ _ _ c.before.before.if1.false c.before.if2.false)
+returns-3 c = sym (other _ _ _ _ _ c.if-mark-eq0.false c.if-mark-eq1.false)
 
-pub part-spec : {M : Type 1} → statement M
-part-spec =
+pub part_spec : {M : Type 1} → statement M
+part_spec =
     tie.close
     (tie.spec cut-requires cut-requires-2 slice-aggregate-result returns returns-2 returns-3)

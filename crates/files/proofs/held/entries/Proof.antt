@@ -8,26 +8,26 @@ use Rattle.files.proofs.held.entries.Statement.{statement}
 use Rattle.files.proofs.held.entries.Tie as tie
 
 -- where the section ends
-ended : (c : tie.After-section-end) → Ended c.before.before.args.trace.now 1 c.section-end.result
+ended : (c : tie.After-section_end-end) → Ended c.args.trace.now 1 c.section_end-end.result
 unfolding section_at
-ended c = fit-end _ 1 c.before.before.requires c.section-end.ensures
+ended c = fit-end _ 1 c.requires c.section_end-end.ensures
 
-section-end-requires : tie.Need-section-end-requires
+section-end-requires : tie.Need-section_end-end-requires
 section-end-requires c κs = search rules
 
-sub-result : tie.Need-overflow-sub-result
+sub-result : tie.Need-slice_bounds-result-count
 sub-result c = omega (arith, ended c)
 
-part-result-start : tie.Need-slice-bounds-result-start
+part-result-start : tie.Need-slice_bounds-result-start
 part-result-start c = omega (arith, ended c)
 
-part-result-end : tie.Need-slice-bounds-result-end
+part-result-end : tie.Need-slice_bounds-result-end
 part-result-end c = omega (arith, ended c)
 
 returns : tie.Need-returns
 unfolding entries_of section_at
 returns c = ended-bytes _ _ _ (ended c.before)
 
-pub entries-spec : {M : Type 1} → statement M
-entries-spec =
+pub entries_spec : {M : Type 1} → statement M
+entries_spec =
     tie.close (tie.spec section-end-requires sub-result part-result-start part-result-end returns)

@@ -10,12 +10,12 @@ use Rattle.files.proofs.held.facts.Tie as tie
 section-requires : tie.Need-section-requires
 section-requires c κs = search rules
 
-word-at-requires : tie.Need-word-at-requires
-word-at-requires c κs = rw c.section.ensures (sizes-two _ c.before.before.requires)
+word-at-requires : tie.Need-word_at-requires
+word-at-requires c κs = rw c.section.ensures (sizes-two _ c.requires)
 
 returns : tie.Need-returns
 unfolding fact_count
-returns c = c.word_at.ensures ∙ ap word c.before.section.ensures
+returns c = c.word_at.ensures ∙ ap word c.section.ensures
 
-pub facts-spec : {M : Type 1} → statement M
-facts-spec = tie.close (tie.spec section-requires word-at-requires returns)
+pub facts_spec : {M : Type 1} → statement M
+facts_spec = tie.close (tie.spec section-requires word-at-requires returns)

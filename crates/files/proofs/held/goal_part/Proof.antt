@@ -7,36 +7,34 @@ use borrow.Author.Rules.{rules}
 use Rattle.files.proofs.held.goal_part.Statement.{statement}
 use Rattle.files.proofs.held.goal_part.Tie as tie
 
-state-count-requires : tie.Need-state-count-requires
+state-count-requires : tie.Need-state_count-states-requires
 state-count-requires c κs = search rules
 
-record-part-requires : tie.Need-record-part-requires
+record-part-requires : tie.Need-record_part-requires
 record-part-requires c κs =
-    let start = c.before.before.before in
-    let below = rw c.before.state-count.ensures at c.if1.true in
-    (start.requires.0, state-there start.args.model.now below)
+    let below = rw c.state_count-states.ensures at c.if-g-states.true in
+    (c.requires.0, state-there c.args.model.now below)
 
-record-part-requires-2 : tie.Need-record-part-requires-2
+record-part-requires-2 : tie.Need-record_part-requires-else-g-states
 record-part-requires-2 c κs =
-    let start = c.before.before.before in
-    let is = c.before.state-count.ensures in
-    let there = formula-there start.args.model.now start.args.g (rw is at c.if1.false) start.requires.1 in
-    (start.requires.0, rw is there)
+    let is = c.state_count-states.ensures in
+    let there = formula-there c.args.model.now c.args.g (rw is at c.if-g-states.false) c.requires.1 in
+    (c.requires.0, rw is there)
 
-returns : tie.Need-returns
+returns : tie.Need-returns-then-g-states
 unfolding goal_part_lem
 returns c =
-    let below = rw c.before.before.state-count.ensures at c.before.if1.true in
-    c.record-part.ensures ∙ rw (lt-ltb _ _ below)
+    let below = rw c.state_count-states.ensures at c.if-g-states.true in
+    c.record_part.ensures ∙ rw (lt-ltb _ _ below)
 
-returns-2 : tie.Need-returns-2
+returns-2 : tie.Need-returns-else-g-states
 unfolding goal_part_lem
 returns-2 c =
-    let is = c.before.before.state-count.ensures in
-    let from = rw is at c.before.if1.false in
-    c.record-part2.ensures ∙ rw (le-ltb _ _ from, is)
+    let is = c.state_count-states.ensures in
+    let from = rw is at c.if-g-states.false in
+    c.record_part-else-g-states.ensures ∙ rw (le-ltb _ _ from, is)
 
-pub goal-part-spec : {M : Type 1} → statement M
-goal-part-spec =
+pub goal_part_spec : {M : Type 1} → statement M
+goal_part_spec =
     tie.close
     (tie.spec state-count-requires record-part-requires record-part-requires-2 returns returns-2)

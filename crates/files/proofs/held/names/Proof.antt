@@ -12,7 +12,7 @@ section-requires c κs = search rules
 
 returns : tie.Need-returns
 unfolding model_of_lem
-returns c = (ap words c.section.ensures, rw c.section.ensures (names-known _ c.before.before.requires))
+returns c = (ap words c.section.ensures, rw c.section.ensures (names-known _ c.requires))
 
-pub names-spec : {M : Type 1} → statement M
-names-spec = tie.close (tie.spec section-requires returns)
+pub names_spec : {M : Type 1} → statement M
+names_spec = tie.close (tie.spec section-requires returns)

@@ -12,51 +12,46 @@ use Rattle.files.proofs.held.record_part.Statement.{statement}
 use Rattle.files.proofs.held.record_part.Tie as tie
 
 -- the place lies in the model
-within : (c : tie.After-place-of)
-    → c.place_of.result + 4 + c.before.before.place.result
-    ≤ length c.before.before.before.before.before.args.model.now
+within : (c : tie.After-place_of)
+    → c.place_of.result + 4 + c.place-at.result
+    ≤ length c.args.model.now
 within c =
-    let p = c.before.before in
-    let start = p.before.before.before in
-    let model = start.args.model.now in
-    let role = start.args.role in
-    let (fine, below) = start.requires in
-    let at = p.place.ensures in
-    let inside : p.place.result ≤ length (section_of model role) =
-    rw (at, p.before.section.ensures) (place_le (section_of model role) start.args.k) in
+    let model = c.args.model.now in
+    let role = c.args.role in
+    let (fine, below) = c.requires in
+    let at = c.place-at.ensures in
+    let inside : c.place-at.result ≤ length (section_of model role) =
+    rw (at, c.section-bytes.ensures) (place_le (section_of model role) c.args.k) in
     omega (arith, c.place_of.ensures, role-ends model fine role (record-there model role below))
 
-section-requires : tie.Need-section-requires
+section-requires : tie.Need-section-bytes-requires
 section-requires c κs = search rules
 
-place-requires : tie.Need-place-requires
+place-requires : tie.Need-place-at-requires
 place-requires c κs = search rules
 
-record-at-requires : tie.Need-record-at-requires
+record-at-requires : tie.Need-record_at-record-requires
 record-at-requires c κs = search rules
 
-place-of-requires : tie.Need-place-of-requires
+place-of-requires : tie.Need-place_of-requires
 place-of-requires c κs = search rules
 
-add-t8 : tie.Need-overflow-add-t8
+add-t8 : tie.Need-overflow_add-result
 add-t8 c = omega (arith, within c)
 
-add-t9 : tie.Need-overflow-add-t9
+add-t9 : tie.Need-overflow_add-result-2
 add-t9 c = omega (arith, within c)
 
 returns : tie.Need-returns
 unfolding record_part_lem
 returns c =
-    let p = c.before.before in
-    let s = p.before in
-    let start = s.before.before in
-    let section = section_of start.args.model.now start.args.role in
-    let this = place-record section start.args.k start.requires.1 in
-    let is = rw (p.place.ensures, s.section.ensures, this) at c.before.record-at.ensures in
-    rw (c.place_of.ensures, is, p.place.ensures, s.section.ensures)
+    let section = section_of c.args.model.now c.args.role in
+    let this = place-record section c.args.k c.requires.1 in
+    let is = rw (c.place-at.ensures, c.section-bytes.ensures, this) at c.record_at-record.ensures in
+    rw (c.place_of.ensures, is, c.place-at.ensures, c.section-bytes.ensures)
 
-pub record-part-spec : {M : Type 1} → statement M
-record-part-spec =
+pub record_part_spec : {M : Type 1} → statement M
+record_part_spec =
     tie.close
     (tie.spec
     section-requires

@@ -8,24 +8,24 @@ use borrow.Author.Rules.{rules}
 use Rattle.files.proofs.held.rule_list.Statement.{statement}
 use Rattle.files.proofs.held.rule_list.Tie as tie
 
-version-of-requires : tie.Need-version-of-requires
+version-of-requires : tie.Need-version_of-requires
 version-of-requires c κs = search rules
 
-rule-kind-requires : tie.Need-rule-kind-requires
+rule-kind-requires : tie.Need-rule_kind-requires
 rule-kind-requires c κs = search rules
 
 -- the kind at hand is that of the model's rules
-kind-is : (c : tie.After-rule-kind)
-    → c.rule-kind.result ≡ rule_kind_lem (get_or c.before.before.before.before.args.model.now 0 0)
-kind-is c = c.rule-kind.ensures ∙ ap rule_kind_lem c.before.version_of.ensures
+kind-is : (c : tie.After-rule_kind)
+    → c.rule_kind.result ≡ rule_kind_lem (get_or c.args.model.now 0 0)
+kind-is c = c.rule_kind.ensures ∙ ap rule_kind_lem c.version_of.ensures
 
-list-of-requires : tie.Need-list-of-requires
+list-of-requires : tie.Need-list_of-requires
 list-of-requires c κs =
-    let (cut, few) = c.before.before.before.before.requires in
+    let (cut, few) = c.requires in
     (rw (kind-is c) cut, three-lists _ _ (kind-is c) few)
 
 returns : tie.Need-returns
 returns c = rw (kind-is c.before) at c.list_of.ensures
 
-pub rule-list-spec : {M : Type 1} → statement M
-rule-list-spec = tie.close (tie.spec version-of-requires rule-kind-requires list-of-requires returns)
+pub rule_list_spec : {M : Type 1} → statement M
+rule_list_spec = tie.close (tie.spec version-of-requires rule-kind-requires list-of-requires returns)

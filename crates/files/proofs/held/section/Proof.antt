@@ -12,62 +12,58 @@ use Rattle.files.proofs.held.section.Statement.{statement}
 use Rattle.files.proofs.held.section.Tie as tie
 
 -- the section's length doesn't fit
-unfit : (c : tie.Then1)
-    → let start = c.before.before.before.before in
-    fits start.args.model.now c.before.before.place_of.result ≡ false
-unfit c = no_end _ _ _ c.before.section-end.ensures c.if1.true
+unfit : (c : tie.Then-end-eq0)
+    →    fits c.args.model.now c.place_of-at.result ≡ false
+unfit c = no_end _ _ _ c.section_end-end.ensures c.if-end-eq0.true
 
 -- where the section ends
-ended : (c : tie.Else1)
-    → Ended c.before.before.before.before.args.model.now c.before.before.place_of.result
-    c.before.section-end.result
-ended c = some_end _ _ _ c.before.section-end.ensures c.if1.false
+ended : (c : tie.Else-end-eq0)
+    → Ended c.args.model.now c.place_of-at.result
+    c.section_end-end.result
+ended c = some_end _ _ _ c.section_end-end.ensures c.if-end-eq0.false
 
-place-of-requires : tie.Need-place-of-requires
+place-of-requires : tie.Need-place_of-at-requires
 place-of-requires c κs = search rules
 
-section-end-requires : tie.Need-section-end-requires
+section-end-requires : tie.Need-section_end-end-requires
 section-end-requires c κs = search rules
 
-slice-aggregate-result : tie.Need-slice-aggregate-result
+slice-aggregate-result : tie.Need-slice_bounds-result-end
 slice-aggregate-result c = search rules
 
-returns : tie.Need-returns
+returns : tie.Need-returns-then-end-eq0
 returns c =
-    let start = c.before.before.before.before.before in
-    let file = start.args.model.now in
-    let role = start.args.role in
-    let is = c.before.before.before.place_of.ensures in
+    let file = c.args.model.now in
+    let role = c.args.role in
+    let is = c.place_of-at.ensures in
     there_or_absent file role
     (λ there.
-    absurd (true≢false (sym (role-fits file start.requires role there) ∙ ap (fits file) (sym is) ∙ unfit c.before)))
+    absurd (true≢false (sym (role-fits file c.requires role there) ∙ ap (fits file) (sym is) ∙ unfit c)))
     (λ absent. sym (section-absent file role absent))
 
-add_start : tie.Need-overflow-add-start
+add_start : tie.Need-overflow_add-start
 add_start c = omega (arith, ended c)
 
-sub-result : tie.Need-overflow-sub-result
+sub-result : tie.Need-slice_bounds-result-count
 sub-result c = omega (arith, ended c)
 
-part-result-start : tie.Need-slice-bounds-result-start
+part-result-start : tie.Need-slice_bounds-result-start
 part-result-start c = omega (arith, ended c)
 
-part-result-end : tie.Need-slice-bounds-result-end
+part-result-end : tie.Need-slice_bounds-result-end-2
 part-result-end c = omega (arith, ended c)
 
-returns-2 : tie.Need-returns-2
+returns-2 : tie.Need-returns
 returns-2 c =
-    let e = c.before in
-    let start = e.before.before.before.before in
-    let file = start.args.model.now in
-    let role = start.args.role in
-    let is = e.before.before.place_of.ensures in
+    let file = c.args.model.now in
+    let role = c.args.role in
+    let is = c.place_of-at.ensures in
     there_or_absent file role
-    (λ there. ended-bytes _ _ _ (ended e) ∙ ap (payload file) is ∙ sym (section-there file role there))
-    (λ absent. absurd (omega (arith, ended e, is, absent-end file start.requires role absent)))
+    (λ there. ended-bytes _ _ _ (ended c.before) ∙ ap (payload file) is ∙ sym (section-there file role there))
+    (λ absent. absurd (omega (arith, ended c.before, is, absent-end file c.requires role absent)))
 
-pub section-spec : {M : Type 1} → statement M
-section-spec =
+pub section_spec : {M : Type 1} → statement M
+section_spec =
     tie.close
     (tie.spec
     place-of-requires

@@ -17,115 +17,111 @@ use Rattle.files.proofs.Order.{onward-end}
 use Rattle.files.proofs.model.judge_shape.Statement.{statement}
 use Rattle.files.proofs.model.judge_shape.Tie as tie
 
-abbrev invariant-loop : tie.invariant-loop
+abbrev invariant-loop : tie.invariant-loop-i
 invariant-loop model version sections facts counts₀ at₀ i₀ counts at i = Onward model facts i at counts
 
-abbrev decreases-loop : tie.decreases-loop
+abbrev decreases-loop : tie.decreases-loop-i
 decreases-loop model version sections facts counts₀ at₀ i₀ counts at i = sections - i
 
 -- the model, the sections that its version has, and how many they are
-module _ (c : tie.At-loop invariant-loop decreases-loop) where
+module _ (c : tie.At-loop-i invariant-loop decreases-loop) where
   abbrev file : List ℕ
-  file = c.before.before.before.before.before.args.model.now
+  file = c.args.model.now
 
-  version-is : c.before.before.before.version_of.result ≡ get_or file 0 0
-  version-is = c.before.before.before.version_of.ensures
+  version-is : c.version_of-version.result ≡ get_or file 0 0
+  version-is = c.version_of-version.ensures
 
-  count-is : c.before.before.section-count.result ≡ length (roles_of file)
+  count-is : c.section_count-sections.result ≡ length (roles_of file)
   unfolding roles_of
-  count-is = rw (← version-is) c.before.before.section-count.ensures
+  count-is = rw (← version-is) c.section_count-sections.ensures
 
 -- where a section is judged
-module _ (c : tie.After-judge-section invariant-loop decreases-loop) where
-  abbrev loop : tie.At-loop invariant-loop decreases-loop
+module _ (c : tie.After-judge_section invariant-loop decreases-loop) where
+  abbrev loop : tie.At-loop-i invariant-loop decreases-loop
   loop = c.before.before.before
 
   abbrev facts : ℕ
-  facts = loop.before.facts-told.result
+  facts = loop.facts_told-facts.result
 
-  on : Onward (file loop) facts loop.loop.i loop.loop.at loop.loop.counts
-  on = loop.loop.inv
+  on : Onward (file loop) facts loop.loop-i.i loop.loop-i.at loop.loop-i.counts
+  on = loop.loop-i.invariant
 
-  more : loop.loop.i < length (roles_of (file loop))
-  more = rw (← count-is loop) c.before.before.loop-test.true
+  more : loop.loop-i.i < length (roles_of (file loop))
+  more = rw (← count-is loop) c.loop-i-test.true
 
   abbrev role : Role
-  role = get_or (roles_of (file loop)) loop.loop.i Formulas
+  role = get_or (roles_of (file loop)) loop.loop-i.i Formulas
 
-  role-is : c.before.role-at.result ≡ role
+  role-is : c.role_at-role.result ≡ role
   unfolding roles_of
-  role-is = rw (← version-is loop) c.before.role-at.ensures
+  role-is = rw (← version-is loop) c.role_at-role.ensures
 
-  section-is : c.judge-section.result
-      ≡ passed (in_section (reader (get_or (file loop) 0 0) role facts) (file loop) loop.loop.at)
-      (end_at (file loop) loop.loop.at) (entries role (payload (file loop) loop.loop.at))
-  section-is = rw role-is at c.judge-section.ensures
+  section-is : c.judge_section.result
+      ≡ passed (in_section (reader (get_or (file loop) 0 0) role facts) (file loop) loop.loop-i.at)
+      (end_at (file loop) loop.loop-i.at) (entries role (payload (file loop) loop.loop-i.at))
+  section-is = rw role-is at c.judge_section.ensures
 
-all-sections : (c : tie.After-loop invariant-loop decreases-loop) → length (roles_of (file c.before)) ≤ c.before.loop.i
-all-sections c = rw (← count-is c.before) c.loop-test.false
+all-sections : (c : tie.After-loop-i invariant-loop decreases-loop) → length (roles_of (file c.before)) ≤ c.loop-i.i
+all-sections c = rw (← count-is c.before) c.loop-i-test.false
 
-version-of-requires : tie.Need-version-of-requires invariant-loop decreases-loop
+version-of-requires : tie.Need-version_of-version-requires invariant-loop decreases-loop
 version-of-requires c κs = search rules
 
-section-count-requires : tie.Need-section-count-requires invariant-loop decreases-loop
+section-count-requires : tie.Need-section_count-sections-requires invariant-loop decreases-loop
 section-count-requires c κs = search rules
 
-facts-told-requires : tie.Need-facts-told-requires invariant-loop decreases-loop
+facts-told-requires : tie.Need-facts_told-facts-requires invariant-loop decreases-loop
 facts-told-requires c κs = search rules
 
-loop-holds : tie.Need-loop-init invariant-loop decreases-loop
-loop-holds c = onward-start _ _ c.facts-told.ensures
+loop-holds : tie.Need-loop-i-init invariant-loop decreases-loop
+loop-holds c = onward-start _ _ c.facts_told-facts.ensures
 
-role-at-requires : tie.Need-role-at-requires invariant-loop decreases-loop
+role-at-requires : tie.Need-role_at-role-requires invariant-loop decreases-loop
 role-at-requires c κs = search rules
 
-judge-section-requires : tie.Need-judge-section-requires invariant-loop decreases-loop
+judge-section-requires : tie.Need-judge_section-requires invariant-loop decreases-loop
 judge-section-requires c κs = search rules
 
-enum-known-fault : tie.Need-enum-known-fault invariant-loop decreases-loop
+enum-known-fault : tie.Need-enum_known-fault invariant-loop decreases-loop
 enum-known-fault c = search rules
 
-returns : tie.Need-returns invariant-loop decreases-loop
+returns : tie.Need-returns-in-Fault invariant-loop decreases-loop
 returns c =
-    let asked = c.before.before.before in
-    judged-some _ _ _ (onward-fault _ _ (on asked) (more asked) (section-is asked) c.before.fault.given.1)
+    judged-some _ _ _ (onward-fault _ _ (on c.before) (more c.before) (section-is c.before) c.in-Fault.is)
 
-enum-known-end : tie.Need-enum-known-end invariant-loop decreases-loop
+enum-known-end : tie.Need-enum_known-end invariant-loop decreases-loop
 enum-known-end c = search rules
 
-note-requires : tie.Need-note-requires invariant-loop decreases-loop
+note-requires : tie.Need-note-counts-requires invariant-loop decreases-loop
 note-requires c κs =
-    let asked = c.before.before.before in
-    omega (arith, onward-few _ _ (on asked) (more asked) (section-is asked) c.before.end.given.1)
+    omega (arith, onward-few _ _ (on c.before) (more c.before) (section-is c.before) c.in-To.is)
 
-add-i : tie.Need-overflow-add-i invariant-loop decreases-loop
+add-i : tie.Need-overflow_add-i invariant-loop decreases-loop
 add-i c = omega arith
 
-loop-less : tie.Need-loop-smaller invariant-loop decreases-loop
+loop-less : tie.Need-loop-i-smaller invariant-loop decreases-loop
 loop-less c = omega arith
 
-loop-again : tie.Need-loop-preserved invariant-loop decreases-loop
+loop-again : tie.Need-loop-i-preserved invariant-loop decreases-loop
 loop-again c =
-    let asked = c.before.before.before.before in
-    rw (c.note.ensures, role-is asked)
-    (onward-next _ _ (on asked) (more asked) (section-is asked) c.before.before.end.given.1)
+    rw (c.note-counts.ensures, role-is c.before.before)
+    (onward-next _ _ (on c.before.before) (more c.before.before) (section-is c.before.before) c.in-To.is)
 
-rest-fault-requires : tie.Need-rest-fault-requires invariant-loop decreases-loop
+rest-fault-requires : tie.Need-rest_fault-requires invariant-loop decreases-loop
 rest-fault-requires c κs = search rules
 
-returns-2 : tie.Need-returns-2 invariant-loop decreases-loop
+returns-2 : tie.Need-returns-then-at-model invariant-loop decreases-loop
 returns-2 c =
-    let done = c.before.before in
-    rw c.rest-fault.ensures
-    (judged-some _ _ _ (onward-left _ _ done.before.loop.invariant (all-sections done) c.before.if1.true))
+    rw c.rest_fault.ensures
+    (judged-some _ _ _ (onward-left _ _ c.loop-i.invariant (all-sections c.before.before) c.if-at-model.true))
 
-returns-3 : tie.Need-returns-3 invariant-loop decreases-loop
+returns-3 : tie.Need-returns invariant-loop decreases-loop
 returns-3 c =
-    let (fine, counts) = onward-end _ _ c.before.before.loop.invariant (all-sections c.before) c.if1.false in
+    let (fine, counts) = onward-end _ _ c.loop-i.invariant (all-sections c.before) c.if-at-model.false in
     judged-none _ _ _ fine counts
 
-pub judge-shape-spec : {M : Type 1} → statement M
-judge-shape-spec =
+pub judge_shape_spec : {M : Type 1} → statement M
+judge_shape_spec =
     tie.close
     (tie.spec
     invariant-loop

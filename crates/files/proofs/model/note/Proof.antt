@@ -25,38 +25,38 @@ not-counted n k Rules a b c d = absurd (b refl)
 not-counted n k Goals a b c d = absurd (c refl)
 not-counted n k Formulas a b c d = absurd (d refl)
 
-tag-of-requires : tie.Need-tag-of-requires
+tag-of-requires : tie.Need-tag_of-requires
 tag-of-requires c κs = search rules
 
 -- the role whose number is at hand
-role-is : (c : tie.After-tag-of) (r : Role) → c.tag_of.result ≡ tag r → c.before.args.role ≡ r
+role-is : (c : tie.After-tag_of) (r : Role) → c.tag_of.result ≡ tag r → c.args.role ≡ r
 role-is c r e = same-role _ r (sym c.tag_of.ensures ∙ e)
 
-add-counts : tie.Need-overflow-add-counts
+add-counts : tie.Need-overflow_add-counts
 add-counts c = search rules
 
-returns : tie.Need-returns
+returns : tie.Need-returns-in-4
 unfolding tag noted
-returns c = let is : _ ≡ Clauses = role-is c.before Clauses c.match.keys1 in rw is
+returns c = let is : _ ≡ Clauses = role-is c.before Clauses c.in-4.is in rw is
 
-returns-2 : tie.Need-returns-2
+returns-2 : tie.Need-returns-in-5
 unfolding tag noted
-returns-2 c = let is : _ ≡ Rules = role-is c.before Rules c.match.keys2 in rw is
+returns-2 c = let is : _ ≡ Rules = role-is c.before Rules c.in-5.is in rw is
 
-returns-3 : tie.Need-returns-3
+returns-3 : tie.Need-returns-in-6
 unfolding tag noted
-returns-3 c = let is : _ ≡ Goals = role-is c.before Goals c.match.keys3 in rw is
+returns-3 c = let is : _ ≡ Goals = role-is c.before Goals c.in-6.is in rw is
 
-returns-4 : tie.Need-returns-4
+returns-4 : tie.Need-returns-in-7
 unfolding tag noted
-returns-4 c = let is : _ ≡ Formulas = role-is c.before.before Formulas c.before.match.keys4 in rw is
+returns-4 c = let is : _ ≡ Formulas = role-is c.before.before Formulas c.in-7.is in rw is
 
-returns-5 : tie.Need-returns-5
+returns-5 : tie.Need-returns-in_default
 returns-5 c =
-    let n = c.before.tag_of.ensures in
-    let others = c.match.rest in
+    let n = c.tag_of.ensures in
+    let others = c.in-4.rest in
     sym (not-counted _ _ _ (λ e. others.0.0.0.1 (n ∙ e)) (λ e. others.0.0.1 (n ∙ e)) (λ e. others.0.1 (n ∙ e))
     (λ e. others.1 (n ∙ e)))
 
-pub note-spec : {M : Type 1} → statement M
-note-spec = tie.close (tie.spec tag-of-requires add-counts returns returns-2 returns-3 returns-4 returns-5)
+pub note_spec : {M : Type 1} → statement M
+note_spec = tie.close (tie.spec tag-of-requires add-counts returns returns-2 returns-3 returns-4 returns-5)

@@ -9,14 +9,14 @@ use Rattle.files.proofs.model.role_at.Tie as tie
 lacking-requires : tie.Need-lacking-requires
 lacking-requires c κs = search rules
 
-add-role-of : tie.Need-overflow-add-role-of
-add-role-of c = omega (arith, c.before.requires, at-most-eight c.before.args.version, c.lacking.ensures.1)
+add-role-of : tie.Need-overflow_add-i
+add-role-of c = omega (arith, c.requires, at-most-eight c.args.version, c.lacking.ensures.1)
 
-role-of-requires : tie.Need-role-of-requires
+role-of-requires : tie.Need-role_of-requires
 role-of-requires c κs = search rules
 
 returns : tie.Need-returns
-returns c = c.role-of.ensures ∙ sym c.before.lacking.ensures.0
+returns c = c.role_of.ensures ∙ sym c.lacking.ensures.0
 
-pub role-at-spec : {M : Type 1} → statement M
-role-at-spec = tie.close (tie.spec lacking-requires add-role-of role-of-requires returns)
+pub role_at_spec : {M : Type 1} → statement M
+role_at_spec = tie.close (tie.spec lacking-requires add-role-of role-of-requires returns)

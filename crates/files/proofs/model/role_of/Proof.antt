@@ -21,41 +21,41 @@ last (suc (suc (suc (suc (suc (suc zero)))))) a b c d e f g = absurd (g refl)
 last (suc (suc (suc (suc (suc (suc (suc zero))))))) a b c d e f g = refl
 last (suc (suc (suc (suc (suc (suc (suc (suc i)))))))) a b c d e f g = refl
 
-returns : tie.Need-returns
+returns : tie.Need-returns-in-0
 unfolding roles since
-returns c = rw c.match.keys1
+returns c = rw c.in-0.is
 
-returns-2 : tie.Need-returns-2
+returns-2 : tie.Need-returns-in-1
 unfolding roles since
-returns-2 c = rw c.match.keys2
+returns-2 c = rw c.in-1.is
 
-returns-3 : tie.Need-returns-3
+returns-3 : tie.Need-returns-in-2
 unfolding roles since
-returns-3 c = rw c.match.keys3
+returns-3 c = rw c.in-2.is
 
-returns-4 : tie.Need-returns-4
+returns-4 : tie.Need-returns-in-3
 unfolding roles since
-returns-4 c = rw c.match.keys4
+returns-4 c = rw c.in-3.is
 
-returns-5 : tie.Need-returns-5
+returns-5 : tie.Need-returns-in-4
 unfolding roles since
-returns-5 c = rw c.match.keys5
+returns-5 c = rw c.in-4.is
 
-returns-6 : tie.Need-returns-6
+returns-6 : tie.Need-returns-in-5
 unfolding roles since
-returns-6 c = rw c.match.keys6
+returns-6 c = rw c.in-5.is
 
-returns-7 : tie.Need-returns-7
+returns-7 : tie.Need-returns-in-6
 unfolding roles since
-returns-7 c = rw c.match.keys7
+returns-7 c = rw c.in-6.is
 
-returns-8 : tie.Need-returns-8
+returns-8 : tie.Need-returns-in_default
 unfolding roles since
 returns-8 c =
-    let others = c.match.rest in
+    let others = c.in-0.rest in
     sym (last _ others.0.0.0.0.0.0.1 others.0.0.0.0.0.1 others.0.0.0.0.1 others.0.0.0.1
     others.0.0.1 others.0.1 others.1)
 
-pub role-of-spec : {M : Type 1} → statement M
-role-of-spec =
+pub role_of_spec : {M : Type 1} → statement M
+role_of_spec =
     tie.close (tie.spec returns returns-2 returns-3 returns-4 returns-5 returns-6 returns-7 returns-8)

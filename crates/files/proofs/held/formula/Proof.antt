@@ -43,10 +43,10 @@ there c =
 this : (c : tie.After-record-record)
     → let args = c.args in
     let m = args.model.now in
-    c.«record».result.now ≡ get_or (records (section_of m Formulas)) (args.g - length (model_of_lem m).goals) []
-this c = rw c.state_count-states.ensures at c.«record».ensures
+    c.record-record.result.now ≡ get_or (records (section_of m Formulas)) (args.g - length (model_of_lem m).goals) []
+this c = rw c.state_count-states.ensures at c.record-record.ensures
 
-long : (c : tie.After-record-record) → 2 ≤ length c.«record».result.now
+long : (c : tie.After-record-record) → 2 ≤ length c.record-record.result.now
 long c =
     rw (this c) (formula-long c.args.model.now c.requires.0 _ (there c.before))
 
@@ -69,7 +69,7 @@ returns-2 c =
     record {
       state = λ below. absurd (omega arith);
       formula = λ _.
-          rw (rest_of c.before.«record».result.now 2, this c.before)
+          rw (rest_of c.before.record-record.result.now 2, this c.before)
           (formula-codes m c.requires.0 c.args.g after c.requires.1);
     }
 

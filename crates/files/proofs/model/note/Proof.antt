@@ -54,7 +54,7 @@ returns-4 c = let is : _ ≡ Formulas = role-is c.before.before Formulas c.in-7.
 returns-5 : tie.Need-returns-in_default
 returns-5 c =
     let n = c.tag_of.ensures in
-    let others = c.in-4.rest in
+    let others = c.in_default.in_default-own.rest in
     sym (not-counted _ _ _ (λ e. others.0.0.0.1 (n ∙ e)) (λ e. others.0.0.1 (n ∙ e)) (λ e. others.0.1 (n ∙ e))
     (λ e. others.1 (n ∙ e)))
 

@@ -52,9 +52,8 @@ returns-7 c = rw c.in-6.is
 returns-8 : tie.Need-returns-in_default
 unfolding roles since
 returns-8 c =
-    let others = c.in-0.rest in
-    sym (last _ others.0.0.0.0.0.0.1 others.0.0.0.0.0.1 others.0.0.0.0.1 others.0.0.0.1
-    others.0.0.1 others.0.1 others.1)
+    let others = c.in_default.in_default-own.rest in
+    sym (last _ others.0.0.0.0.0.0.1 others.0.0.0.0.0.1 others.0.0.0.0.1 others.0.0.0.1 others.0.0.1 others.0.1 others.1)
 
 pub role_of_spec : {M : Type 1} → statement M
 role_of_spec =

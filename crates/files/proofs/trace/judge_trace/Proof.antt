@@ -5,6 +5,7 @@ use mathlib.Core.Logic.{inl, inr, ⊎_elim}
 use mathlib.Core.List.{List}
 use native.Mathlib.Omega.{arith}
 use borrow.Author.Rules.{rules}
+use borrow.Author.Tests.{eq-eqb, ne_eqb}
 use lib.ListN.{take, drop}
 use Rattle.sections.specs.Sections.{payload}
 use Rattle.sections.specs.declared.Passed.{Passed}
@@ -48,7 +49,7 @@ part-entries-end c = omega (arith, (ended c).within)
 
 returns-2 : tie.Need-returns-then-size-lt2
 returns-2 c =
-    answer-shape _ _ _ _ (ended c.before.before) _ (bytes c.before.before) (⊎_elim (λ w. inl w.true) (λ w. inr w.1.true) c.if-size-lt2.branch)
+    answer-shape _ _ _ _ (ended c.before.before) _ (bytes c.before.before) (⊎_elim (λ w. inl w.if-size-lt2.true) (λ w. inr (eq-eqb _ _ w.if-size-eq1.true)) c.then-size-lt2.branch-raw)
 
 rest-fault-requires-2 : tie.Need-rest_fault-requires-then-end-trace
 rest-fault-requires-2 c κs = search rules
@@ -56,14 +57,14 @@ rest-fault-requires-2 c κs = search rules
 returns-3 : tie.Need-returns-then-end-trace
 returns-3 c =
     ap Passed.Fault c.rest_fault-then-end-trace.ensures
-    ∙ answer-left _ _ _ _ (ended c.before.before.before.before.before) _ (bytes c.before.before.before.before.before) c.if-size-lt2.false c.if-size-eq1.false c.if-end-trace.true
+    ∙ answer-left _ _ _ _ (ended c.before.before.before.before.before) _ (bytes c.before.before.before.before.before) c.if-size-lt2.false (ne_eqb _ _ c.if-size-eq1.false) c.if-end-trace.true
 
 sub-steps : tie.Need-overflow_sub-steps
 sub-steps c = search rules
 
 returns-4 : tie.Need-returns-then-steps-gt1024
 returns-4 c =
-    answer-count _ _ _ _ (ended c.before.before.before.before.before) _ (bytes c.before.before.before.before.before) c.if-size-lt2.false c.if-size-eq1.false c.if-end-trace.false
+    answer-count _ _ _ _ (ended c.before.before.before.before.before) _ (bytes c.before.before.before.before.before) c.if-size-lt2.false (ne_eqb _ _ c.if-size-eq1.false) c.if-end-trace.false
     c.if-steps-gt1024.true
 
 lacking-requires : tie.Need-lacking-at-requires
@@ -81,7 +82,7 @@ counted c =
       ended = ended c.before.before.before.before.before;
       entries = bytes c.before.before.before.before.before;
       long = c.if-size-lt2.false;
-      even = c.if-size-eq1.false;
+      even = ne_eqb _ _ c.if-size-eq1.false;
       done = c.if-end-trace.false;
       few = c.if-steps-gt1024.false;
     }

@@ -42,6 +42,7 @@ model_versions v = (known, listed v)
     known (Memᴰ.tail (Memᴰ.head e)) = (omega arith, omega arith)
     known (Memᴰ.tail (Memᴰ.tail (Memᴰ.head e))) = (omega arith, omega arith)
     known (Memᴰ.tail (Memᴰ.tail (Memᴰ.tail (Memᴰ.head e)))) = (omega arith, omega arith)
+    known (Memᴰ.tail (Memᴰ.tail (Memᴰ.tail (Memᴰ.tail m)))) = elim m [ ]
 
     listed : (v : ℕ) → (1 ≤ v) × (v ≤ 4) → v ∈ 1 ∷ 2 ∷ 3 ∷ 4 ∷ []
     listed zero (low, high) = absurd (omega arith)
@@ -56,6 +57,7 @@ trace_versions v = (known, listed v)
   where
     known : {v : ℕ} → v ∈ 1 ∷ [] → (1 ≤ v) × (v ≤ 1)
     known (Memᴰ.head e) = (omega arith, omega arith)
+    known (Memᴰ.tail m) = elim m [ ]
 
     listed : (v : ℕ) → (1 ≤ v) × (v ≤ 1) → v ∈ 1 ∷ []
     listed zero (low, high) = absurd (omega arith)

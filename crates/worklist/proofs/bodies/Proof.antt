@@ -12,17 +12,17 @@ use Rattle.worklist.proofs.Starting.{Noted, noted-start, noted-next, noted-end}
 use Rattle.worklist.proofs.bodies.Statement.{statement}
 use Rattle.worklist.proofs.bodies.Tie as tie
 
-abbrev invariant-loop : tie.invariant-loop
+abbrev invariant-loop : tie.invariant-loop-k
 invariant-loop clauses starts lacks₀ least₀ k₀ lacks least k = Noted (clauses_in clauses) k least lacks
 
-abbrev decreases-loop : tie.decreases-loop
+abbrev decreases-loop : tie.decreases-loop-k
 decreases-loop clauses starts lacks₀ least₀ k₀ lacks least k = length starts - k
 
-loop-holds : tie.Need-loop-init invariant-loop decreases-loop
-loop-holds c = let pre = c.before.before.requires in noted-start _ _ pre.4 pre.5
+loop-holds : tie.Need-loop-k-init invariant-loop decreases-loop
+loop-holds c = let pre = c.requires in noted-start _ _ pre.4 pre.5
 
 -- Clause k, whose place is looked up.
-module _ (c : tie.At-loop invariant-loop decreases-loop) where
+module _ (c : tie.At-loop-k invariant-loop decreases-loop) where
   abbrev entry : tie.Start invariant-loop decreases-loop
   entry = c.before.before.before
 
@@ -33,127 +33,119 @@ module _ (c : tie.At-loop invariant-loop decreases-loop) where
   starts = entry.args.starts.now
 
   abbrev k : ℕ
-  k = c.loop.k
+  k = c.loop-k.k
 
   abbrev body : ℕ
   body = length (clause_at (clauses_in clauses) k).body
 
   few : (length starts ≤ 4096) × (length starts ≡ length (clauses_in clauses)) × (k ≤ length starts)
-  few = let count = entry.pre.1.count in (entry.pre.3, count, omega (arith, count, c.loop.invariant.some))
+  few = let count = entry.requires.1.count in (entry.requires.3, count, omega (arith, count, c.loop-k.invariant.some))
 
   short : k < length starts → body ≤ 16
   short h =
       let cs = clauses_in clauses in
-      entry.pre.2 (clause_at cs k) (clause_in cs k (omega (arith, few)))
+      entry.requires.2 (clause_at cs k) (clause_in cs k (omega (arith, few)))
 
   there : k < length starts → ClauseAt clauses k (get_or starts k 0)
-  there = clause-there clauses entry.pre.0 entry.pre.1 k
+  there = clause-there clauses entry.requires.0 entry.requires.1 k
 
   -- The clause after it starts where its record ends.
   end : k + 1 < length starts → get_or starts (k + 1) 0 ≡ get_or starts k 0 + 4 + 2 * body
-  end h = clause-end clauses entry.pre.0 entry.pre.1 k (omega arith) h
+  end h = clause-end clauses entry.requires.0 entry.requires.1 k (omega arith) h
 
   -- It is noted what the clause lacks.
   next : k < length starts → {m least : ℕ} {lacks : List ℕ} → m ≡ body
-      → (lacks ≡ set c.loop.lacks k m) × (least ≤ m) × (least ≤ c.loop.least)
+      → (lacks ≡ set c.loop-k.lacks k m) × (least ≤ m) × (least ≤ c.loop-k.least)
       → Noted (clauses_in clauses) (k + 1) least lacks
   next h size (is, here, before) =
-      rw is (noted-next c.loop.invariant (omega (arith, few)) (omega (arith, few)) size here before)
+      rw is (noted-next c.loop-k.invariant (omega (arith, few)) (omega (arith, few)) size here before)
 
-add-loop : tie.Need-overflow-add-loop invariant-loop decreases-loop
+add-loop : tie.Need-overflow_add-k invariant-loop decreases-loop
 add-loop c = omega (arith, few c)
 
-add_body : tie.Need-overflow-add-body invariant-loop decreases-loop
+add_body : tie.Need-overflow_add-body invariant-loop decreases-loop
 add_body c = omega (arith, few c.before)
 
-mul-body : tie.Need-overflow-mul-body invariant-loop decreases-loop
+mul-body : tie.Need-offset_bounds-starts-k invariant-loop decreases-loop
 mul-body c = omega (arith, few c.before)
 
-shared-slice-read-body : tie.Need-shared-slice-read-body invariant-loop decreases-loop
-shared-slice-read-body c = c.before.loop-test.true
+shared-slice-read-body : tie.Need-bounds-starts-k invariant-loop decreases-loop
+shared-slice-read-body c = c.loop-k-test.true
 
-mul-body-2 : tie.Need-overflow-mul-body-2 invariant-loop decreases-loop
+mul-body-2 : tie.Need-offset_bounds-starts-k-in-loop-k invariant-loop decreases-loop
 mul-body-2 c = omega (arith, few c.before.before)
 
-shared-slice-read-body-2 : tie.Need-shared-slice-read-body-2 invariant-loop decreases-loop
-shared-slice-read-body-2 c = omega (arith, c.before.before.loop-test.true)
+shared-slice-read-body-2 : tie.Need-bounds-starts-k-in-loop-k invariant-loop decreases-loop
+shared-slice-read-body-2 c = omega (arith, c.loop-k-test.true)
 
 -- the body of clause k, which is not the last one, by two starts
-ended : (c : tie.In-loop invariant-loop decreases-loop)
-    → let at = c.before in
-    get_or (starts at) (k at + 1) 0 ≡ get_or (starts at) (k at) 0 + 4 + 2 * body at
-ended c = end c.before c.loop-test.true
+ended : (c : tie.In-loop-k invariant-loop decreases-loop)
+    →    get_or (starts c.before) (k c.before + 1) 0 ≡ get_or (starts c.before) (k c.before) 0 + 4 + 2 * body c.before
+ended c = end c.before c.loop-k-test.true
 
-sub-body : tie.Need-overflow-sub-body invariant-loop decreases-loop
+sub-body : tie.Need-overflow_sub-body invariant-loop decreases-loop
 sub-body c = omega (arith, ended c.before.before)
 
-sub-body-2 : tie.Need-overflow-sub-body-2 invariant-loop decreases-loop
+sub-body-2 : tie.Need-overflow_sub-body-in-loop-k invariant-loop decreases-loop
 sub-body-2 c = omega (arith, ended c.before.before)
 
-cast-note : tie.Need-overflow-cast-note invariant-loop decreases-loop
+cast-note : tie.Need-overflow_cast-body invariant-loop decreases-loop
 cast-note c =
-    let turn = c.before.before.before in
-    omega (arith, ended turn, short turn.before (omega (arith, turn.loop-test.true)))
+    omega (arith, ended c.before.before.before, short c.before.before.before.before (omega (arith, c.loop-k-test.true)))
 
-note-requires : tie.Need-note-requires invariant-loop decreases-loop
+note-requires : tie.Need-note-least-requires invariant-loop decreases-loop
 note-requires c κs =
-    let turn = c.before.before.before in
-    (omega (arith, turn.loop-test.true, few turn.before), turn.before.loop.invariant.sized)
+    (omega (arith, c.loop-k-test.true, few c.before.before.before.before), c.loop-k.invariant.sized)
 
-add-k : tie.Need-overflow-add-k invariant-loop decreases-loop
+add-k : tie.Need-overflow_add-k-in-loop-k invariant-loop decreases-loop
 add-k c = omega (arith, few c.before.before.before.before.before)
 
-loop-less : tie.Need-loop-smaller invariant-loop decreases-loop
-loop-less c = omega (arith, c.before.before.before.before.loop-test.true)
+loop-less : tie.Need-loop-k-smaller invariant-loop decreases-loop
+loop-less c = omega (arith, c.loop-k-test.true)
 
-loop-again : tie.Need-loop-preserved invariant-loop decreases-loop
+loop-again : tie.Need-loop-k-preserved invariant-loop decreases-loop
 loop-again c =
-    let turn = c.before.before.before.before in
-    next turn.before (omega (arith, turn.loop-test.true)) (omega (arith, ended turn)) c.note.ensures
+    next c.before.before.before.before.before (omega (arith, c.loop-k-test.true)) (omega (arith, ended c.before.before.before.before)) c.note-least.ensures
 
-mul-word-at : tie.Need-overflow-mul-word-at invariant-loop decreases-loop
+mul-word-at : tie.Need-offset_bounds-starts-k-then-k-starts invariant-loop decreases-loop
 mul-word-at c = omega (arith, few c.before.before)
 
-shared-slice-read-word-at : tie.Need-shared-slice-read-word-at invariant-loop decreases-loop
-shared-slice-read-word-at c = c.before.if1.true
+shared-slice-read-word-at : tie.Need-bounds-starts-k-then-k-starts invariant-loop decreases-loop
+shared-slice-read-word-at c = c.if-k-starts.true
 
-cast-word-at : tie.Need-overflow-cast-word-at invariant-loop decreases-loop
-cast-word-at c = omega (arith, (there c.before.before.before c.before.if1.true).fits)
+cast-word-at : tie.Need-overflow_cast-starts invariant-loop decreases-loop
+cast-word-at c = omega (arith, (there c.before.before.before c.if-k-starts.true).fits)
 
-word-at-requires : tie.Need-word-at-requires invariant-loop decreases-loop
-word-at-requires c κs = omega (arith, (there c.before.before.before c.before.if1.true).fits)
+word-at-requires : tie.Need-word_at-requires invariant-loop decreases-loop
+word-at-requires c κs = omega (arith, (there c.before.before.before c.if-k-starts.true).fits)
 
 -- the body of the last clause, by its record
-last : (c : tie.After-word-at invariant-loop decreases-loop) → c.word_at.result ≡ 2 + 2 * body c.before.before.before.before
+last : (c : tie.After-word_at invariant-loop decreases-loop) → c.word_at.result ≡ 2 + 2 * body c.before.before.before.before
 last c =
-    c.word_at.ensures ∙ (there c.before.before.before.before c.before.before.if1.true).size
+    c.word_at.ensures ∙ (there c.before.before.before.before c.if-k-starts.true).size
 
-sub-body-3 : tie.Need-overflow-sub-body-3 invariant-loop decreases-loop
+sub-body-3 : tie.Need-overflow_sub-body-then-k-starts invariant-loop decreases-loop
 sub-body-3 c = omega (arith, last c)
 
-cast-note-2 : tie.Need-overflow-cast-note-2 invariant-loop decreases-loop
+cast-note-2 : tie.Need-overflow_cast-body-then-k-starts invariant-loop decreases-loop
 cast-note-2 c =
-    let test = c.before.before.before in
-    omega (arith, last c.before, short test.before.before test.if1.true)
+    omega (arith, last c.before, short c.before.before.before.before.before c.if-k-starts.true)
 
-note-requires-2 : tie.Need-note-requires-2 invariant-loop decreases-loop
+note-requires-2 : tie.Need-note-least-requires-then-k-starts invariant-loop decreases-loop
 note-requires-2 c κs =
-    let test = c.before.before.before in
-    (omega (arith, test.if1.true, few test.before.before), test.before.before.loop.invariant.sized)
+    (omega (arith, c.if-k-starts.true, few c.before.before.before.before.before), c.loop-k.invariant.sized)
 
-returns : tie.Need-returns invariant-loop decreases-loop
+returns : tie.Need-returns-then-k-starts invariant-loop decreases-loop
 returns c =
-    let test = c.before.before.before.before in
-    let at = test.before.before in
     noted-end
-    (next at test.if1.true (omega (arith, last c.before.before)) c.note2.ensures)
-    (omega (arith, few at, test.before.loop-test.false))
+    (next c.before.before.before.before.before.before c.if-k-starts.true (omega (arith, last c.before.before)) c.note-least-then-k-starts.ensures)
+    (omega (arith, few c.before.before.before.before.before.before, c.loop-k-test.false))
 
-returns-2 : tie.Need-returns-2 invariant-loop decreases-loop
-returns-2 c = let at = c.before.before in noted-end at.loop.invariant (omega (arith, few at, c.if1.false))
+returns-2 : tie.Need-returns-else-k-starts invariant-loop decreases-loop
+returns-2 c = noted-end c.loop-k.invariant (omega (arith, few c.before.before, c.if-k-starts.false))
 
-pub bodies-spec : {M : Type 1} → statement M
-bodies-spec =
+pub bodies_spec : {M : Type 1} → statement M
+bodies_spec =
     tie.close
     (tie.spec
     invariant-loop

@@ -7,14 +7,14 @@ use Prim.Native.Nat.{ℕ}
 use Rattle.worklist.proofs.empty.Statement.{statement}
 use Rattle.worklist.proofs.empty.Tie as tie
 
-shared-slice-read-result : tie.Need-shared-slice-read-result
+shared-slice-read-result : tie.Need-bounds-state-i
 shared-slice-read-result c = search rules
 
-returns : tie.Need-returns
+returns : tie.Need-returns-then-i-state
 returns c = search rules
 
-returns-2 : tie.Need-returns-2
-returns-2 c = ap (λ (b : ℕ). eqb b 0) (sym (get_or-eq_default c.before.args.state.now 0 c.if1.false))
+returns-2 : tie.Need-returns-else-i-state
+returns-2 c = ap (λ (b : ℕ). eqb b 0) (sym (get_or-eq_default c.args.state.now 0 c.if-i-state.false))
 
-pub empty-spec : {M : Type 1} → statement M
-empty-spec = tie.close (tie.spec shared-slice-read-result returns returns-2)
+pub empty_spec : {M : Type 1} → statement M
+empty_spec = tie.close (tie.spec shared-slice-read-result returns returns-2)

@@ -5,17 +5,17 @@ use Rattle.worklist.proofs.Seeing.{number-low, number-none}
 use Rattle.worklist.proofs.number.Statement.{statement}
 use Rattle.worklist.proofs.number.Tie as tie
 
-mul-result : tie.Need-overflow-mul-result
-mul-result c = omega (arith, c.if1.true)
+mul-result : tie.Need-offset_bounds-table-f
+mul-result c = omega (arith, c.if-f-lt4096.true)
 
-shared-slice-read-result : tie.Need-shared-slice-read-result
-shared-slice-read-result c = omega (arith, c.before.if1.true, c.before.before.requires)
+shared-slice-read-result : tie.Need-bounds-table-f
+shared-slice-read-result c = omega (arith, c.if-f-lt4096.true, c.requires)
 
-returns : tie.Need-returns
-returns c = sym (number-low _ _ c.before.if1.true)
+returns : tie.Need-returns-then-f-lt4096
+returns c = sym (number-low _ _ c.if-f-lt4096.true)
 
-returns-2 : tie.Need-returns-2
-returns-2 c = sym (number-none _ _ (omega (arith, c.if1.false)))
+returns-2 : tie.Need-returns-else-f-lt4096
+returns-2 c = sym (number-none _ _ (omega (arith, c.if-f-lt4096.false)))
 
-pub number-spec : {M : Type 1} → statement M
-number-spec = tie.close (tie.spec mul-result shared-slice-read-result returns returns-2)
+pub number_spec : {M : Type 1} → statement M
+number_spec = tie.close (tie.spec mul-result shared-slice-read-result returns returns-2)

@@ -7,57 +7,52 @@ use Rattle.worklist.proofs.run.Tie as tie
 
 -- Once the fact's number is asked for: the function's entry.
 abbrev asked : tie.After-number → tie.Start
-asked c = c.before.before.before.before.before.before.before.before
+asked c = c.before.before.before.before.before.before.before
 
 number-requires : tie.Need-number-requires
-number-requires c κs = c.before.before.before.before.before.before.before.requires.begun.room
+number-requires c κs = c.requires.begun.room
 
-same_length : tie.Need-same-length
+same_length : tie.Need-shape_of-table-then-number-eq0
 same_length c = refl
 
 -- The fact is stored: round 0 is what is shown.
-returns : tie.Need-returns
+returns : tie.Need-returns-then-number-eq0
 returns c =
-    let number = c.before in
-    closes_stored (asked number).requires.begun _ (sym number.number.ensures ∙ c.if1.true)
+    closes_stored c.requires.begun _ (sym c.number.ensures ∙ c.if-number-eq0.true)
 
 -- Otherwise, once the queue is lent.
-abbrev entry : tie.After-queue → tie.Start
-entry c = asked c.before.before.before
+abbrev entry : tie.After-queue-1 → tie.Start
+entry c = c.before.before.before.before.before.before.before.before.before
 
-gather-requires : tie.Need-gather-requires
-gather-requires c κs = let pre = (entry c).requires in (pre.begun.room, pre.eights, refl)
+gather-requires : tie.Need-gather-stored-requires
+gather-requires c κs = let pre = c.requires in (pre.begun.room, pre.eights, refl)
 
-start-requires : tie.Need-start-requires
+start-requires : tie.Need-start-n-requires
 start-requires c κs =
-    let gathered = c.before.before.before in
-    let pre = (entry gathered.before).requires in
-    (pre.judged, pre.places, refl, zeros_at 4096, pre.begun, gathered.gather.ensures)
+    let pre = c.requires in
+    (pre.judged, pre.places, refl, zeros_at 4096, pre.begun, c.gather-stored.ensures)
 
 drain-requires : tie.Need-drain-requires
 drain-requires c κs =
-    let started = c.before.before.before.before.before in
-    let queue = started.before.before.before.before.before in
-    let pre = (entry queue).requires in
-    let number = queue.before.before.before in
-    let absent = not-stored pre.begun _ (λ e. queue.before.before.if1.false (number.number.ensures ∙ e)) in
-    let begun = started.start.ensures in (
+    let pre = c.requires in
+    let absent = not-stored pre.begun _ (λ e. c.if-number-eq0.false (c.number.ensures ∙ e)) in
+    let begun = c.start-n.ensures in (
       rw begun.state pre.judged,
       pre.listed,
       pre.places,
       rw begun.state (between_start pre.judged.known absent begun),
     )
 
-abbrev begun : tie.After-slice-known3 → tie.After-start
+abbrev begun : tie.After-slice_known-3-1 → tie.After-start-n
 begun c = c.before.before.before.before.before.before.before.before
 
-same-length-2 : tie.Need-same-length-2
-same-length-2 c = c.before.before.drain.ensures.as_long ∙ (begun c).start.ensures.as_long
+same-length-2 : tie.Need-shape_of-table
+same-length-2 c = c.drain.ensures.as_long ∙ c.start-n.ensures.as_long
 
-returns-2 : tie.Need-returns-2
+returns-2 : tie.Need-returns
 returns-2 c =
-    let started = (begun c).start.ensures in
-    closes_from started.state started.as_long started.beyond c.before.before.drain.ensures
+    let started = c.start-n.ensures in
+    closes_from started.state started.as_long started.beyond c.drain.ensures
 
 pub run_spec : {M : Type 1} → statement M
 run_spec =

@@ -5,29 +5,28 @@ use Rattle.worklist.proofs.Starting.{opened-start, opened-all}
 use Rattle.worklist.proofs.start.Statement.{statement}
 use Rattle.worklist.proofs.start.Tie as tie
 
-bodies-requires : tie.Need-bodies-requires
+bodies-requires : tie.Need-bodies-least-requires
 bodies-requires c κs =
-    let pre = c.before.before.before.before.requires in
+    let pre = c.requires in
     (pre.0.cut, pre.1, pre.0.short, omega (arith, pre.1.count, pre.0.known.count), pre.2, pre.3)
 
 unasked-requires : tie.Need-unasked-requires
 unasked-requires c κs =
-    let test = c.before.before.before in
-    let pre = test.before.before.before.before.before.before.requires in
-    (pre.0, pre.1, rw test.if1.true at test.before.bodies.ensures, pre.4, pre.5)
+    let pre = c.requires in
+    (pre.0, pre.1, rw c.if-least-eq0.true at c.bodies-least.ensures, pre.4, pre.5)
 
-same_length : tie.Need-same-length
+same_length : tie.Need-shape_of-table-then-least-eq0
 same_length c = search rules
 
-returns : tie.Need-returns
+returns : tie.Need-returns-then-least-eq0
 returns c = search rules
 
-returns-2 : tie.Need-returns-2
+returns-2 : tie.Need-returns
 returns-2 c =
-    let pre = c.before.before.before.before.before.before.requires in
-    let lacking = c.before.bodies.ensures in
+    let pre = c.requires in
+    let lacking = c.bodies-least.ensures in
     let known = pre.0.known in
-    opened-all known lacking c.if1.false (opened-start known pre.4 pre.5 _ lacking.sized)
+    opened-all known lacking c.if-least-eq0.false (opened-start known pre.4 pre.5 _ lacking.sized)
 
 pub start_spec : {M : Type 1} → statement M
 start_spec = tie.close (tie.spec bodies-requires unasked-requires same_length returns returns-2)

@@ -10,44 +10,44 @@ use Rattle.worklist.proofs.waits.Statement.{statement}
 use Rattle.worklist.proofs.waits.Tie as tie
 
 -- The fact that waits is below 4,096.
-module _ (c : tie.Then1) where
+module _ (c : tie.Then-at-n) where
   abbrev entry : tie.Start
   entry = c.before.before
 
   some : entry.args.at < entry.args.n
-  some = c.if1.true
+  some = c.if-at-n.true
 
   low : get_or entry.args.queue.now entry.args.at 0 < 4096
-  low = entry.pre.2 _ some
+  low = entry.requires.2 _ some
 
-mul-result : tie.Need-overflow-mul-result
-mul-result c = let h = some c in omega (arith, (entry c).requires.0)
+mul-result : tie.Need-offset_bounds-queue-at
+mul-result c = let h = some c in omega (arith, c.requires.0)
 
-element-copy-out-result : tie.Need-element-copy-out-result
-element-copy-out-result c = let h = some c in omega (arith, (entry c).requires.0)
+element-copy-out-result : tie.Need-bounds-queue-at
+element-copy-out-result c = let h = some c.before in omega (arith, c.requires.0)
 
-cast-result : tie.Need-overflow-cast-result
-cast-result c = let h = low c.before in omega arith
+cast-result : tie.Need-overflow_cast-result
+cast-result c = let h = low c.before.before in omega arith
 
-mul-result-2 : tie.Need-overflow-mul-result-2
-mul-result-2 c = let h = low c.before in omega arith
+mul-result-2 : tie.Need-offset_bounds-table-queue
+mul-result-2 c = let h = low c.before.before in omega arith
 
-shared-slice-read-result : tie.Need-shared-slice-read-result
-shared-slice-read-result c = let h = low c.before.before in omega (arith, (entry c.before.before).pre.1)
+shared-slice-read-result : tie.Need-bounds-table-queue
+shared-slice-read-result c = let h = low c.before.before.before in omega (arith, c.requires.1)
 
 number-requires : tie.Need-number-requires
-number-requires c κs = (entry c.before.before).pre.1
+number-requires c κs = c.requires.1
 
-returns : tie.Need-returns
+returns : tie.Need-returns-then-at-n
 unfolding waits_for
-returns c = let h = some c.before.before.before in rw (lt-ltb _ _ h, c.number.ensures)
+returns c = let h = some c.before.before.before.before in rw (lt-ltb _ _ h, c.number.ensures)
 
-returns-2 : tie.Need-returns-2
+returns-2 : tie.Need-returns
 unfolding waits_for
-returns-2 c = rw (le-ltb _ _ c.if1.false)
+returns-2 c = rw (le-ltb _ _ c.if-at-n.false)
 
-pub waits-spec : {M : Type 1} → statement M
-waits-spec =
+pub waits_spec : {M : Type 1} → statement M
+waits_spec =
     tie.close
     (tie.spec
     mul-result

@@ -10,14 +10,14 @@ use Rattle.sets.proofs.Laws.{below_or_from}
 use Rattle.closing.proofs.clear.Statement.{statement}
 use Rattle.closing.proofs.clear.Tie as tie
 
-abbrev invariant-loop : tie.invariant-loop
+abbrev invariant-loop : tie.invariant-loop-f
 invariant-loop table₀ f₀ table f =
     (f ≤ 4096)
     × (length table ≡ length table₀)
     × ((g : ℕ) → g < f → get_or table g 0 ≡ 65535)
     × (drop 4096 table ≡ drop 4096 table₀)
 
-abbrev decreases-loop : tie.decreases-loop
+abbrev decreases-loop : tie.decreases-loop-f
 decreases-loop table₀ f₀ table f = 4096 - f
 
 -- One fact more.
@@ -31,32 +31,32 @@ module _ (table₀ table : List ℕ) (f : ℕ) (inv : invariant-loop table₀ 0 
   more : invariant-loop table₀ 0 (set table f 65535) (f + 1)
   more = (omega arith, rw length-set inv.1, entry, drop-set-lt 4096 table f 65535 h ∙ inv.3)
 
-loop-holds : tie.Need-loop-init invariant-loop decreases-loop
+loop-holds : tie.Need-loop-f-init invariant-loop decreases-loop
 loop-holds c = (omega arith, refl, λ g l. absurd (omega arith), refl)
 
-mul-table : tie.Need-overflow-mul-table invariant-loop decreases-loop
+mul-table : tie.Need-offset_bounds-table-f invariant-loop decreases-loop
 mul-table c = omega arith
 
-slice-write-table : tie.Need-slice-write-table invariant-loop decreases-loop
-slice-write-table c = omega (arith, c.before.before.requires)
+slice-write-table : tie.Need-bounds-table-f invariant-loop decreases-loop
+slice-write-table c = omega (arith, c.requires)
 
-add-f : tie.Need-overflow-add-f invariant-loop decreases-loop
+add-f : tie.Need-overflow_step-f invariant-loop decreases-loop
 add-f c = omega arith
 
-loop-less : tie.Need-loop-smaller invariant-loop decreases-loop
+loop-less : tie.Need-loop-f-smaller invariant-loop decreases-loop
 loop-less c = omega arith
 
-loop-again : tie.Need-loop-preserved invariant-loop decreases-loop
+loop-again : tie.Need-loop-f-preserved invariant-loop decreases-loop
 loop-again c =
-    let at = c.before.loop in
-    more c.before.before.args.table.now at.table at.f at.invariant (omega arith) (slice-write-table c)
+    let at = c.loop-f in
+    more c.args.table.now at.table at.f at.invariant (omega arith) (slice-write-table c)
 
-same_length : tie.Need-same-length invariant-loop decreases-loop
-same_length c = c.before.loop.invariant.1
+same_length : tie.Need-shape_of-table invariant-loop decreases-loop
+same_length c = c.loop-f.invariant.1
 
 returns : tie.Need-returns invariant-loop decreases-loop
 returns c =
-    let at = c.before.loop in
+    let at = c.loop-f in
     record { as_long = at.invariant.1; entries = λ g l. at.invariant.2 g (omega arith); beyond = at.invariant.3 }
 
 pub clear_spec : {M : Type 1} → statement M

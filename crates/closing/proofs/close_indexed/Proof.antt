@@ -15,103 +15,96 @@ use borrow.Author.Rules.{rules}
 use Rattle.closing.proofs.close_indexed.Statement.{statement}
 use Rattle.closing.proofs.close_indexed.Tie as tie
 
-abbrev start : tie.After-no-room → tie.Start
-start c = c.before.before.before.before.before.before
+abbrev start : tie.After-no_room → tie.Start
+start c = c.before.before.before.before.before
 
 -- past the test there is room
-roomy : (c : tie.Else1) → let s = start c.before in no_room_lem s.args.state.now s.args.table.now ≡ false
-roomy c = sym c.before.no_room.ensures ∙ c.if1.false
+roomy : (c : tie.Else-no_room) → no_room_lem c.args.state.now c.args.table.now ≡ false
+roomy c = sym c.no_room.ensures ∙ c.if-no_room.false
 
 -- Once the model is judged: it has no fault, and so many clauses.
-module _ (c : tie.After-known-told2) where
-  abbrev tested : tie.Else1
-  tested = c.before.before.before.before
+module _ (c : tie.In-Fine) where
+  abbrev tested : tie.Else-no_room
+  tested = c.before.before
 
   abbrev entry : tie.Start
-  entry = start tested.before
+  entry = c.before.before.before.before.before.before.before.before
 
   fine : (model_fault entry.args.model.now ≡ none)
-      × (counts_of entry.args.model.now ≡ c.before.counts.given.0.0)
-  fine = judged-fine _ _ _ c.before.before.before.judge-model.ensures c.before.counts.given.1
+      × (counts_of entry.args.model.now ≡ c.in-Fine.counts)
+  fine = judged-fine _ _ _ c.judge_model.ensures c.in-Fine.is
 
 -- Past the second test the index has room.
-placed : (c : tie.Else2)
-    → let s = entry c.before.before.before in no_places_lem s.args.model.now s.args.index.now ≡ false
-placed c = sym c.before.no-places.ensures ∙ c.if2.false
+placed : (c : tie.Else-no_places)
+    → no_places_lem c.args.model.now c.args.index.now ≡ false
+placed c = sym c.no_places.ensures ∙ c.if-no_places.false
 
-no-room-requires : tie.Need-no-room-requires
+no-room-requires : tie.Need-no_room-requires
 no-room-requires c κs = search rules
 
-same_length : tie.Need-same-length
+same_length : tie.Need-shape_of-table-then-no_room
 same_length c = search rules
 
-returns : tie.Need-returns
-returns c = crosses_refused _ _ _ _ _ 1 (indexed_no_room _ _ _ _ (sym c.before.no_room.ensures ∙ c.if1.true))
+returns : tie.Need-returns-then-no_room
+returns c = crosses_refused _ _ _ _ _ 1 (indexed_no_room _ _ _ _ (sym c.no_room.ensures ∙ c.if-no_room.true))
 
-judge-model-requires : tie.Need-judge-model-requires
+judge-model-requires : tie.Need-judge_model-requires
 judge-model-requires c κs = search rules
 
-enum-known-fault : tie.Need-enum-known-fault
+enum-known-fault : tie.Need-enum_known-fault
 enum-known-fault c = search rules
 
-enum-known-counts : tie.Need-enum-known-counts
+enum-known-counts : tie.Need-enum_known-counts
 enum-known-counts c = search rules
 
-no-places-requires : tie.Need-no-places-requires
+no-places-requires : tie.Need-no_places-requires
 unfolding counts_of
 no-places-requires c κs =
-    let judged = c.before in
-    (fine-shape _ (fine judged).0, sym (ap (λ (n : Counts). n.clauses) (fine judged).1))
+    (fine-shape _ (fine c).0, sym (ap (λ (n : Counts). n.clauses) (fine c).1))
 
-same-length-2 : tie.Need-same-length-2
+same-length-2 : tie.Need-shape_of-table-then-no_places
 same-length-2 c = search rules
 
-same-length-3 : tie.Need-same-length-3
+same-length-3 : tie.Need-shape_of-index-then-no_places
 same-length-3 c = search rules
 
-returns-2 : tie.Need-returns-2
+returns-2 : tie.Need-returns-then-no_places
 returns-2 c =
-    let judged = c.before.before.before in
     crosses_refused _ _ _ _ _ 1
-    (indexed_no_places _ _ _ _ (roomy (tested judged)) (fine judged).0
-    (sym c.before.no-places.ensures ∙ c.if2.true))
+    (indexed_no_places _ _ _ _ (roomy c.before.before.before.before) (fine c.before.before).0
+    (sym c.no_places.ensures ∙ c.if-no_places.true))
 
-close-built-requires : tie.Need-close-built-requires
+close-built-requires : tie.Need-close_built-requires
 close-built-requires c κs =
-    let room = c.before.before in
-    let judged = room.before.before.before in (
-      fine-shape _ (fine judged).0,
-      fine-size _ (fine judged).0,
-      table-room _ _ (roomy (tested judged)),
-      placed room,
+ (
+      fine-shape _ (fine c.before.before.before.before).0,
+      fine-size _ (fine c.before.before.before.before).0,
+      table-room _ _ (roomy c.before.before.before.before.before.before),
+      placed c.before.before,
     )
 
-same-length-4 : tie.Need-same-length-4
+same-length-4 : tie.Need-shape_of-table-in-Fault
 same-length-4 c = search rules
 
-returns-3 : tie.Need-returns-3
+returns-3 : tie.Need-returns-in-Fault
 returns-3 c =
-    let judged = c.before.before.before in
     crosses_refused _ _ _ _ _ _
-    (indexed-fault _ _ _ _ (roomy judged.before) _
-    (judged-fault _ _ _ judged.judge-model.ensures c.before.fault.given.1))
+    (indexed-fault _ _ _ _ (roomy c.before.before) _
+    (judged-fault _ _ _ c.judge_model.ensures c.in-Fault.is))
 
-same-length-5 : tie.Need-same-length-5
+same-length-5 : tie.Need-shape_of-table-else-no_places
 same-length-5 c = search rules
 
-same-length-6 : tie.Need-same-length-6
+same-length-6 : tie.Need-shape_of-index
 same-length-6 c = search rules
 
-returns-4 : tie.Need-returns-4
+returns-4 : tie.Need-returns-else-no_places
 returns-4 c =
-    let closed = c.before.before.before.before in
-    let room = closed.before.before.before in
-    let judged = room.before.before.before in
-    crosses_as (indexed-fine _ _ _ _ (roomy (tested judged)) (fine judged).0 (placed room))
-    closed.close-built.ensures
+    crosses_as (indexed-fine _ _ _ _ (roomy c.before.before.before.before.before.before.before.before.before.before.before) (fine c.before.before.before.before.before.before.before.before.before).0 (placed c.before.before.before.before.before.before.before))
+    c.close_built.ensures
 
-pub close-indexed-spec : {M : Type 1} → statement M
-close-indexed-spec =
+pub close_indexed_spec : {M : Type 1} → statement M
+close_indexed_spec =
     tie.close
     (tie.spec
     no-room-requires

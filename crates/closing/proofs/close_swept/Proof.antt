@@ -15,30 +15,28 @@ use Rattle.closing.proofs.close_swept.Tie as tie
 section-requires : tie.Need-section-requires
 section-requires c κs = search rules
 
-close-clauses-requires : tie.Need-close-clauses-requires
+close-clauses-requires : tie.Need-close_clauses-requires
 unfolding model_of_lem
 close-clauses-requires c κs =
-    let s = c.before.before.before.before.before in
-    let is = sym c.before.section.ensures in
-    let m = s.args.model.now in (
-      subst (AllCut Kind.Clause) is (clauses-cut m s.requires.0),
-      subst (λ (l : List ℕ). Bounded (clauses_in l)) is (bounded m s.requires.0),
-      s.requires.1,
+    let is = sym c.section.ensures in
+    let m = c.args.model.now in (
+      subst (AllCut Kind.Clause) is (clauses-cut m c.requires.0),
+      subst (λ (l : List ℕ). Bounded (clauses_in l)) is (bounded m c.requires.0),
+      c.requires.1,
     )
 
-same_length : tie.Need-same-length
+same_length : tie.Need-shape_of-table
 same_length c = search rules
 
 returns : tie.Need-returns
 unfolding model_of_lem
 returns c =
-    let s = c.before.before.before.before.before.before.before.before in
-    let closed = c.before.before.close-clauses in
+    let closed = c.close_clauses in
     subst
-    (λ (l : List ℕ). ClosesUnder (clauses_in l) s.args.state.now s.args.table.now closed.new.1.1.0
+    (λ (l : List ℕ). ClosesUnder (clauses_in l) c.args.state.now c.args.table.now closed.new.table
     closed.result)
-    c.before.before.before.before.section.ensures closed.ensures
+    c.section.ensures closed.ensures
 
-pub close-swept-spec : {M : Type 1} → statement M
-close-swept-spec =
+pub close_swept_spec : {M : Type 1} → statement M
+close_swept_spec =
     tie.close (tie.spec section-requires close-clauses-requires same_length returns)

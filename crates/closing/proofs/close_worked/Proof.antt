@@ -15,23 +15,17 @@ entry c = c.before.before.before.before.before.before.before.before
 
 run-requires : tie.Need-run-requires
 run-requires c κs =
-    let begun = c.before.before.before.before in
-    let s = entry begun in
-    workable s.args.model.now s.args.state.now s.pre.0 s.pre.1 begun.start.ensures
-    c.before.section.ensures s.pre.2 s.pre.3
+    workable c.args.model.now c.args.state.now c.requires.0 c.requires.1 c.start.ensures
+    c.section.ensures c.requires.2 c.requires.3
 
-same_length : tie.Need-same-length
+same_length : tie.Need-shape_of-table
 same_length c = search rules
 
 returns : tie.Need-returns
 returns c =
-    let ran = c.before.before in
-    let section = ran.before.before in
-    let begun = section.before.before.before in
-    let s = entry begun in
-    works s.args.model.now s.args.state.now s.pre.0 s.pre.1 begun.start.ensures
-    section.section.ensures ran.run.ensures
+    works c.args.model.now c.args.state.now c.requires.0 c.requires.1 c.start.ensures
+    c.section.ensures c.run.ensures
 
-pub close-worked-spec : {M : Type 1} → statement M
-close-worked-spec =
+pub close_worked_spec : {M : Type 1} → statement M
+close_worked_spec =
     tie.close (tie.spec start-requires section-requires run-requires same_length returns)

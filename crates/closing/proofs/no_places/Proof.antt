@@ -12,12 +12,11 @@ section-requires c κs = search rules
 places-requires : tie.Need-places-requires
 unfolding model_of_lem
 places-requires c κs =
-    let s = c.before.before.before in
-    rw c.section.ensures (clauses-cut s.args.model.now s.requires.0, s.requires.1)
+    rw c.section.ensures (clauses-cut c.args.model.now c.requires.0, c.requires.1)
 
 returns : tie.Need-returns
 unfolding no_places_lem model_of_lem
-returns c = rw (c.places.ensures, c.before.section.ensures)
+returns c = rw (c.places.ensures, c.section.ensures)
 
-pub no-places-spec : {M : Type 1} → statement M
-no-places-spec = tie.close (tie.spec section-requires places-requires returns)
+pub no_places_spec : {M : Type 1} → statement M
+no_places_spec = tie.close (tie.spec section-requires places-requires returns)

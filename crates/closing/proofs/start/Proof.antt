@@ -24,7 +24,7 @@ drop_more a b n m l e =
     ∙ drop-drop (m - n) n b
     ∙ ap (λ (k : ℕ). drop k b) (add-sub_of_le l)
 
-abbrev invariant-loop : tie.invariant-loop
+abbrev invariant-loop : tie.invariant-loop-i
 invariant-loop state table₀ i₀ table i =
     (i ≤ 512)
     × (length table ≡ length table₀)
@@ -32,7 +32,7 @@ invariant-loop state table₀ i₀ table i =
     × ((f : ℕ) → i * 8 ≤ f → f < 4096 → get_or table f 0 ≡ 65535)
     × (drop 4096 table ≡ drop 4096 table₀)
 
-abbrev decreases-loop : tie.decreases-loop
+abbrev decreases-loop : tie.decreases-loop-i
 decreases-loop state table₀ i₀ table i = 512 - i
 
 -- One byte more, whose eight facts have their numbers: the entries before it and after it are as they were.
@@ -81,61 +81,55 @@ no-facts state table₀ table i inv h none =
 clear-requires : tie.Need-clear-requires invariant-loop decreases-loop
 clear-requires c κs = search rules
 
-loop-holds : tie.Need-loop-init invariant-loop decreases-loop
+loop-holds : tie.Need-loop-i-init invariant-loop decreases-loop
 loop-holds c =
-    let cleared = c.before.before.clear.ensures in
+    let cleared = c.clear.ensures in
     (omega arith, refl, λ f l. absurd (omega arith), λ f l u. cleared.entries f u, refl)
 
-byte-at-requires : tie.Need-byte-at-requires invariant-loop decreases-loop
+byte-at-requires : tie.Need-byte_at-b-requires invariant-loop decreases-loop
 byte-at-requires c κs = search rules
 
-mul-start-byte : tie.Need-overflow-mul-start-byte invariant-loop decreases-loop
+mul-start-byte : tie.Need-overflow_mul-i invariant-loop decreases-loop
 mul-start-byte c = omega arith
 
-start-byte-requires : tie.Need-start-byte-requires invariant-loop decreases-loop
+start-byte-requires : tie.Need-start_byte-requires invariant-loop decreases-loop
 start-byte-requires c κs =
-    let turn = c.before.before.before in
-    let cleared = turn.before.before.before.before in
     omega (
       arith,
-      turn.loop-test.true,
-      turn.before.loop.invariant.1,
-      cleared.clear.ensures.as_long,
-      cleared.before.before.before.before.requires,
+      c.loop-i-test.true,
+      c.loop-i.invariant.1,
+      c.clear.ensures.as_long,
+      c.requires,
     )
 
-add-i : tie.Need-overflow-add-i invariant-loop decreases-loop
+add-i : tie.Need-overflow_step-i invariant-loop decreases-loop
 add-i c = omega arith
 
-loop-less : tie.Need-loop-smaller invariant-loop decreases-loop
+loop-less : tie.Need-loop-i-smaller invariant-loop decreases-loop
 loop-less c = omega arith
 
-loop-again : tie.Need-loop-preserved invariant-loop decreases-loop
+loop-again : tie.Need-loop-i-preserved invariant-loop decreases-loop
 loop-again c =
-    let turn = c.before.before in
-    let at = turn.before.loop in
-    let cleared = turn.before.before.before.before in
-    let state = cleared.before.before.before.before.args.state.now in
-    let byte : c.before.byte_at.result ≡ get_or state at.i 0 = c.before.byte_at.ensures in
+    let at = c.loop-i in
+    let state = c.args.state.now in
+    let byte : c.byte_at-b.result ≡ get_or state at.i 0 = c.byte_at-b.ensures in
     ⊎_elim
-    (λ w. some-facts state cleared.clear.new.0 at.table c.if1.table at.i at.invariant (omega arith)
-    (rw (w.5, ← byte) w.2.ensures))
-    (λ w. rw w.1 (no-facts state cleared.clear.new.0 at.table at.i at.invariant (omega arith)
-    (omega (arith, byte, w.0.left)))) c.if1.branch
+    (λ w. some-facts state c.clear.new.table at.table c.if-b-gt0.table at.i at.invariant (omega arith)
+    (rw (w.table-is, ← byte) w.start_byte.ensures))
+    (λ w. rw w.table-is (no-facts state c.clear.new.table at.table at.i at.invariant (omega arith)
+    (omega (arith, byte, w.if-b-gt0.false)))) c.if-b-gt0.branch-raw
 
-same_length : tie.Need-same-length invariant-loop decreases-loop
+same_length : tie.Need-shape_of-table invariant-loop decreases-loop
 same_length c =
-    let cleared = c.before.before.before.before in
-    c.before.loop.invariant.1 ∙ cleared.clear.ensures.as_long
+    c.loop-i.invariant.1 ∙ c.clear.ensures.as_long
 
 returns : tie.Need-returns invariant-loop decreases-loop
 returns c =
-    let at = c.before.loop in
-    let cleared = c.before.before.before.before in
+    let at = c.loop-i in
     record {
       as_long = same_length c;
       entries = λ f l. at.invariant.2 f (omega arith);
-      beyond = at.invariant.4 ∙ cleared.clear.ensures.beyond;
+      beyond = at.invariant.4 ∙ c.clear.ensures.beyond;
     }
 
 pub start_spec : {M : Type 1} → statement M

@@ -10,46 +10,46 @@ use Rattle.closing.specs.Sweep.{Started}
 use Rattle.closing.proofs.start_byte.Statement.{statement}
 use Rattle.closing.proofs.start_byte.Tie as tie
 
-abbrev invariant-loop : tie.invariant-loop
+abbrev invariant-loop : tie.invariant-loop-k
 invariant-loop b table₀ at k₀ table k = (k ≤ 8) × Started b at k table₀ table
 
-abbrev decreases-loop : tie.decreases-loop
+abbrev decreases-loop : tie.decreases-loop-k
 decreases-loop b table₀ at k₀ table k = 8 - k
 
-loop-holds : tie.Need-loop-init invariant-loop decreases-loop
+loop-holds : tie.Need-loop-k-init invariant-loop decreases-loop
 loop-holds c =
     (omega arith, record { as_long = refl; earlier = λ f l. refl; entries = λ k l. absurd (omega arith); later = refl })
 
-cast-number : tie.Need-overflow-cast-number invariant-loop decreases-loop
+cast-number : tie.Need-overflow_cast-k invariant-loop decreases-loop
 cast-number c = omega arith
 
-shr-number : tie.Need-overflow-shr-number invariant-loop decreases-loop
+shr-number : tie.Need-overflow_shr-b invariant-loop decreases-loop
 shr-number c = omega arith
 
 number-requires : tie.Need-number-requires invariant-loop decreases-loop
 number-requires c κs = search rules
 
-add-table : tie.Need-overflow-add-table invariant-loop decreases-loop
+add-table : tie.Need-overflow_add-table invariant-loop decreases-loop
 add-table c = omega arith
 
-mul-table : tie.Need-overflow-mul-table invariant-loop decreases-loop
+mul-table : tie.Need-offset_bounds-table-at invariant-loop decreases-loop
 mul-table c = omega arith
 
-slice-write-table : tie.Need-slice-write-table invariant-loop decreases-loop
+slice-write-table : tie.Need-bounds-table-at invariant-loop decreases-loop
 slice-write-table c = omega arith
 
-add-k : tie.Need-overflow-add-k invariant-loop decreases-loop
+add-k : tie.Need-overflow_step-k invariant-loop decreases-loop
 add-k c = omega arith
 
-loop-less : tie.Need-loop-smaller invariant-loop decreases-loop
+loop-less : tie.Need-loop-k-smaller invariant-loop decreases-loop
 loop-less c = omega arith
 
-loop-again : tie.Need-loop-preserved invariant-loop decreases-loop
+loop-again : tie.Need-loop-k-preserved invariant-loop decreases-loop
 loop-again c =
-    let args = c.before.before.before.before.args in
-    let table = c.before.before.loop.table in
-    let k = c.before.before.loop.k in
-    let inv = c.before.before.loop.invariant.1 in
+    let args = c.args in
+    let table = c.loop-k.table in
+    let k = c.loop-k.k in
+    let inv = c.loop-k.invariant.1 in
     let inside : args.at + k < length table = omega arith in (
       omega arith,
       record {
@@ -63,16 +63,16 @@ loop-again c =
       },
     )
 
-same_length : tie.Need-same-length invariant-loop decreases-loop
-same_length c = c.before.loop.invariant.1.as_long
+same_length : tie.Need-shape_of-table invariant-loop decreases-loop
+same_length c = c.loop-k.invariant.1.as_long
 
 returns : tie.Need-returns invariant-loop decreases-loop
 returns c =
-    let done : c.before.loop.k ≡ 8 = omega arith in
-    rw done at c.before.loop.invariant.1
+    let done : c.loop-k.k ≡ 8 = omega arith in
+    rw done at c.loop-k.invariant.1
 
-pub start-byte-spec : {M : Type 1} → statement M
-start-byte-spec =
+pub start_byte_spec : {M : Type 1} → statement M
+start_byte_spec =
     tie.close
     (tie.spec
     invariant-loop

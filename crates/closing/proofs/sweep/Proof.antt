@@ -21,41 +21,41 @@ use Rattle.closing.proofs.Sweeps.{Sweeping, sweep-start, sweep-skip, sweep_fail,
 use Rattle.closing.proofs.sweep.Statement.{statement}
 use Rattle.closing.proofs.sweep.Tie as tie
 
-abbrev invariant-loop : tie.invariant-loop
+abbrev invariant-loop : tie.invariant-loop-at
 invariant-loop clauses table₀ r added₀ at₀ table added at =
     (at ≤ length clauses)
     × AllCut Kind.Clause (drop at clauses)
     × Bounded (clauses_in (drop at clauses))
     × Sweeping (clauses_in clauses) r table₀ (clauses_in (drop at clauses)) table added
 
-abbrev decreases-loop : tie.decreases-loop
+abbrev decreases-loop : tie.decreases-loop-at
 decreases-loop clauses table₀ r added₀ at₀ table added at = length clauses - at
 
-loop-holds : tie.Need-loop-init invariant-loop decreases-loop
+loop-holds : tie.Need-loop-at-init invariant-loop decreases-loop
 loop-holds c =
-    let pre = c.before.before.requires in
+    let pre = c.requires in
     (omega arith, pre.0, pre.1, sweep-start _ _ _)
 
 -- In a turn: the clause at the place.
-module _ (c : tie.In-loop invariant-loop decreases-loop) where
+module _ (c : tie.In-loop-at invariant-loop decreases-loop) where
   abbrev clauses : List ℕ
-  clauses = c.before.before.before.before.args.clauses.now
+  clauses = c.args.clauses.now
 
   abbrev at : ℕ
-  at = c.before.loop.at
+  at = c.loop-at.at
 
   clause : (end : ℕ) → end ≡ at + 2 + word (drop at clauses)
       → ClauseAt clauses at end (take (end - at) (drop at clauses))
-  clause = clause-at clauses at c.loop-test.true c.before.loop.invariant.1 c.before.loop.invariant.2
+  clause = clause-at clauses at c.loop-at-test.true c.loop-at.invariant.1 c.loop-at.invariant.2
 
-add-end : tie.Need-overflow-add-end invariant-loop decreases-loop
+add-end : tie.Need-overflow_add-end invariant-loop decreases-loop
 add-end c = omega (arith, (clause c _ refl).fits)
 
-word-at-requires : tie.Need-word-at-requires invariant-loop decreases-loop
+word-at-requires : tie.Need-word_at-requires invariant-loop decreases-loop
 word-at-requires c κs = omega (arith, (clause c _ refl).fits)
 
 -- Its end is where its length says.
-module _ (c : tie.After-word-at invariant-loop decreases-loop) where
+module _ (c : tie.After-word_at invariant-loop decreases-loop) where
   abbrev end : ℕ
   end = at c.before + 2 + c.word_at.result
 
@@ -65,31 +65,31 @@ module _ (c : tie.After-word-at invariant-loop decreases-loop) where
   here : ClauseAt (clauses c.before) (at c.before) end bytes
   here = clause c.before end (ap (λ (w : ℕ). at c.before + 2 + w) c.word_at.ensures)
 
-add-end-2 : tie.Need-overflow-add-end-2 invariant-loop decreases-loop
-add-end-2 c = omega (arith, (here c).ranges)
+add-end-2 : tie.Need-overflow_add-end-in-loop-at invariant-loop decreases-loop
+add-end-2 c = omega (arith, (here c).fits)
 
-sub-clause : tie.Need-overflow-sub-clause invariant-loop decreases-loop
+sub-clause : tie.Need-slice_bounds-clause-count invariant-loop decreases-loop
 sub-clause c = omega arith
 
-part-clause-start : tie.Need-slice-bounds-clause-start invariant-loop decreases-loop
+part-clause-start : tie.Need-slice_bounds-clause-start invariant-loop decreases-loop
 part-clause-start c = omega arith
 
-part-clause-end : tie.Need-slice-bounds-clause-end invariant-loop decreases-loop
-part-clause-end c = (here c).ranges
+part-clause-end : tie.Need-slice_bounds-clause-end invariant-loop decreases-loop
+part-clause-end c = (here c).fits
 
-word-at-requires-2 : tie.Need-word-at-requires-2 invariant-loop decreases-loop
+word-at-requires-2 : tie.Need-word_at-head-requires invariant-loop decreases-loop
 word-at-requires-2 c κs = (here c.before).long
 
 -- Its head is below 4,096, and the clauses from the place on are it and those after it.
-module _ (c : tie.After-word-at2 invariant-loop decreases-loop) where
-  abbrev turn : tie.After-word-at invariant-loop decreases-loop
+module _ (c : tie.After-word_at-head invariant-loop decreases-loop) where
+  abbrev turn : tie.After-word_at invariant-loop decreases-loop
   turn = c.before.before
 
-  abbrev loop : tie.At-loop invariant-loop decreases-loop
-  loop = turn.before.before
+  abbrev loop : tie.At-loop-at invariant-loop decreases-loop
+  loop = c.before.before.before.before
 
   abbrev entry : tie.Start invariant-loop decreases-loop
-  entry = loop.before.before.before
+  entry = c.before.before.before.before.before.before.before
 
   abbrev this : Clause
   this = clause_of (bytes turn)
@@ -101,18 +101,18 @@ module _ (c : tie.After-word-at2 invariant-loop decreases-loop) where
   Left rest table added =
       Sweeping (clauses_in (clauses turn.before)) entry.args.r entry.args.table.now rest table added
 
-  low : c.word-at2.result < 4096
-  low = rw c.word-at2.ensures (here turn).head
+  low : c.word_at-head.result < 4096
+  low = rw c.word_at-head.ensures (here turn).head
 
-  long : 4096 ≤ length loop.loop.table
-  long = omega (arith, loop.loop.inv.3.as_long, entry.pre.2)
+  long : 4096 ≤ length loop.loop-at.table
+  long = omega (arith, loop.loop-at.invariant.3.as_long, entry.requires.2)
 
-  head-is : c.word-at2.result ≡ this.head
+  head-is : c.word_at-head.result ≡ this.head
   unfolding clause_of
-  head-is = c.word-at2.ensures
+  head-is = c.word_at-head.ensures
 
-  sweeping : Left (this ∷ later) loop.loop.table loop.loop.added
-  sweeping = rw (here turn).next at loop.loop.inv.3
+  sweeping : Left (this ∷ later) loop.loop-at.table loop.loop-at.added
+  sweeping = rw (here turn).next at loop.loop-at.invariant.3
 
   less : length (clauses turn.before) - end turn < length (clauses turn.before) - at turn.before
   less = omega (arith, (here turn).further, (here turn).fits)
@@ -121,81 +121,76 @@ module _ (c : tie.After-word-at2 invariant-loop decreases-loop) where
       → invariant-loop (clauses turn.before) entry.args.table.now entry.args.r false 0 table added (end turn)
   again table added s = ((here turn).fits, (here turn).cut, (here turn).bounded, s)
 
-mul-if1 : tie.Need-overflow-mul-if1 invariant-loop decreases-loop
+mul-if1 : tie.Need-offset_bounds-table-head invariant-loop decreases-loop
 mul-if1 c = omega (arith, low c)
 
-slice-read-if1 : tie.Need-slice-read-if1 invariant-loop decreases-loop
+slice-read-if1 : tie.Need-bounds-table-head invariant-loop decreases-loop
 slice-read-if1 c = omega (arith, low c.before, long c.before)
 
-sub-stands : tie.Need-overflow-sub-stands invariant-loop decreases-loop
-sub-stands c = (here (turn c.before.before)).long
+sub-stands : tie.Need-slice_bounds-stands-count invariant-loop decreases-loop
+sub-stands c = (here c.before.before.before.before).long
 
-part-stands-start : tie.Need-slice-bounds-stands-start invariant-loop decreases-loop
-part-stands-start c = (here (turn c.before.before)).long
+part-stands-start : tie.Need-slice_bounds-stands-start invariant-loop decreases-loop
+part-stands-start c = (here c.before.before.before.before).long
 
-part-stands-end : tie.Need-slice-bounds-stands-end invariant-loop decreases-loop
+part-stands-end : tie.Need-slice_bounds-stands-end invariant-loop decreases-loop
 part-stands-end c = search rules
 
 stands-requires : tie.Need-stands-requires invariant-loop decreases-loop
 stands-requires c κs =
-    let w = c.before.before.before.before in
-    (rw (rest_of (bytes (turn w)) 4) (here (turn w)).body, long w)
+    (rw (rest_of (bytes c.before.before.before.before.before) 4) (here c.before.before.before.before.before).body, long c.before.before.before)
 
-add-table : tie.Need-overflow-add-table invariant-loop decreases-loop
-add-table c = omega (arith, (entry c.before.before.before.before.before.before).pre.3)
+add-table : tie.Need-overflow_add-table invariant-loop decreases-loop
+add-table c = omega (arith, c.requires.3)
 
-mul-table : tie.Need-overflow-mul-table invariant-loop decreases-loop
-mul-table c = omega (arith, low c.before.before.before.before.before.before)
+mul-table : tie.Need-offset_bounds-table-head-then-stands invariant-loop decreases-loop
+mul-table c = omega (arith, low c.before.before.before.before.before)
 
-slice-write-table : tie.Need-slice-write-table invariant-loop decreases-loop
-slice-write-table c = let w = c.before.before.before.before.before.before in omega (arith, low w, long w)
+slice-write-table : tie.Need-bounds-table-head-then-stands invariant-loop decreases-loop
+slice-write-table c = omega (arith, low c.before.before.before.before.before, long c.before.before.before.before.before)
 
 -- What `stands` answers is whether the clause's body stands.
 body : (c : tie.After-stands invariant-loop decreases-loop)
-    → let w = c.before.before.before.before.before in
-    c.stands.result ≡ stands (up_to (loop w).loop.table (entry w).args.r) (this w)
+    →    c.stands.result ≡ stands (up_to c.loop-at.table c.args.r) (this c.before.before.before.before)
 unfolding stands clause_of
-body c = c.stands.ensures ∙ rw (rest_of (bytes (turn c.before.before.before.before.before)) 4)
+body c = c.stands.ensures ∙ rw (rest_of (bytes c.before.before.before.before.before.before) 4)
 
-loop-less : tie.Need-loop-smaller invariant-loop decreases-loop
-loop-less c = less c.before.before.before.before.before.before
+loop-less : tie.Need-loop-at-smaller-then-stands invariant-loop decreases-loop
+loop-less c = less c.before.before.before.before.before
 
-loop-again : tie.Need-loop-preserved invariant-loop decreases-loop
+loop-again : tie.Need-loop-at-preserved-then-stands invariant-loop decreases-loop
 loop-again c =
-    let w = c.before.before.before.before.before.before in
-    again w _ _
-    (sweep-fire (this w) (sweeping w) _ (head-is w) (slice-write-table c) (low w) (entry w).requires.3
-    c.before.before.before.before.if1.true (sym (body c.before) ∙ c.if2.true))
+    again c.before.before.before.before.before _ _
+    (sweep-fire (this c.before.before.before.before.before) (sweeping c.before.before.before.before.before) _ (head-is c.before.before.before.before.before) (slice-write-table c) (low c.before.before.before.before.before) c.requires.3
+    c.if-table-head.true (sym (body c.before) ∙ c.if-stands.true))
 
-loop-less-2 : tie.Need-loop-smaller-2 invariant-loop decreases-loop
-loop-less-2 c = less c.before.before.before.before.before.before
+loop-less-2 : tie.Need-loop-at-smaller-else-stands invariant-loop decreases-loop
+loop-less-2 c = less c.before.before.before.before.before
 
-loop-again-2 : tie.Need-loop-preserved-2 invariant-loop decreases-loop
+loop-again-2 : tie.Need-loop-at-preserved-else-stands invariant-loop decreases-loop
 loop-again-2 c =
-    let w = c.before.before.before.before.before.before in
-    again w _ _ (sweep_fail (this w) (sweeping w) (sym (body c.before) ∙ c.if2.false))
+    again c.before.before.before.before.before _ _ (sweep_fail (this c.before.before.before.before.before) (sweeping c.before.before.before.before.before) (sym (body c.before) ∙ c.if-stands.false))
 
-loop-less-3 : tie.Need-loop-smaller-3 invariant-loop decreases-loop
+loop-less-3 : tie.Need-loop-at-smaller invariant-loop decreases-loop
 loop-less-3 c = less c.before.before
 
-loop-again-3 : tie.Need-loop-preserved-3 invariant-loop decreases-loop
+loop-again-3 : tie.Need-loop-at-preserved invariant-loop decreases-loop
 loop-again-3 c =
-    let w = c.before.before in
-    again w _ _ (sweep-skip (this w) (sweeping w) _ (head-is w) c.if1.false)
+    again c.before.before _ _ (sweep-skip (this c.before.before) (sweeping c.before.before) _ (head-is c.before.before) c.if-table-head.false)
 
-same_length : tie.Need-same-length invariant-loop decreases-loop
-same_length c = c.before.loop.invariant.3.as_long
+same_length : tie.Need-shape_of-table invariant-loop decreases-loop
+same_length c = c.loop-at.invariant.3.as_long
 
 returns : tie.Need-returns invariant-loop decreases-loop
 unfolding clauses_in
 returns c =
     let none =
     ap (map clause_of)
-    (records-end c.before.before.before.before.args.clauses.now c.before.loop.at c.loop-test.false) in
-    sweep-end (rw none at c.before.loop.invariant.3)
+    (records-end c.args.clauses.now c.loop-at.at c.loop-at-test.false) in
+    sweep-end (rw none at c.loop-at.invariant.3)
 
-pub sweep-spec : {M : Type 1} → statement M
-sweep-spec =
+pub sweep_spec : {M : Type 1} → statement M
+sweep_spec =
     tie.close
     (tie.spec
     invariant-loop

@@ -4,11 +4,11 @@ use Rattle.past.proofs.Bits.{added_written, removed-written}
 use Rattle.past.proofs.keep.Statement.{statement}
 use Rattle.past.proofs.keep.Tie as tie
 
-returns : tie.Need-returns
-returns c = rw c.before.before.before.before.if1.true (added_written c.before.before.add.ensures)
+returns : tie.Need-returns-then-bit
+returns c = rw c.if-bit.true (added_written c.add.ensures)
 
-returns-2 : tie.Need-returns-2
-returns-2 c = rw c.before.before.before.before.if1.false (removed-written c.before.before.remove.ensures)
+returns-2 : tie.Need-returns-else-bit
+returns-2 c = rw c.if-bit.false (removed-written c.remove.ensures)
 
 pub keep_spec : {M : Type 1} → statement M
 keep_spec =

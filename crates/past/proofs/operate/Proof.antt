@@ -14,7 +14,7 @@ use Rattle.past.proofs.operate.Tie as tie
 
 module _ (c : tie.After-push) where
   abbrev start : tie.Start
-  start = c.before.before.before.before.before.before.before
+  start = c.before.before.before.before.before.before
 
   abbrev bytes : List ℕ
   bytes = start.args.kept.now
@@ -28,40 +28,40 @@ module _ (c : tie.After-push) where
   abbrev value : Bool
   value = value_at start.args.i code (values_in waiting bytes)
 
-  value-is : c.before.before.before.value_of_lem.result ≡ value
+  value-is : c.value_of-value.result ≡ value
   unfolding value_at top
   value-is =
-      c.before.before.before.value_of_lem.ensures
-      ∙ ap (value_of code (top waiting) (top (waiting / 2))) c.before.before.before.before.has.ensures
+      c.value_of-value.ensures
+      ∙ ap (value_of code (top waiting) (top (waiting / 2))) c.has.ensures
 
   number : c.push.result ≡ pushed (left code waiting) value
-  number = c.push.ensures ∙ ap₂ pushed c.before.rest.ensures value-is
+  number = c.push.ensures ∙ ap₂ pushed c.rest.ensures value-is
 
   abbrev Turn : List ℕ → Type 0
   Turn after =
       Turned (operated (room 32 bytes) start.args.i code (values_in waiting bytes)) bytes after c.push.result
 
-  turned : Turn c.before.before.if1.auto
+  turned : Turn c.if-code-gt32771.kept
   unfolding keeps top
   turned =
       ⊎_elim
       (λ w.
-      let bit = w.2.ensures ∙ ap (bit_of code (top waiting)) value-is in
-      subst Turn (sym w.6)
-      (turned-kept code start.args.i waiting bytes (lt-ltb 32771 code w.0.taken) bit w.3.ensures number))
+      let bit = w.bit_of.ensures ∙ ap (bit_of code (top waiting)) value-is in
+      subst Turn (sym w.kept-is)
+      (turned-kept code start.args.i waiting bytes (lt-ltb 32771 code w.if-code-gt32771.true) bit w.keep.ensures number))
       (λ w.
-      subst Turn (sym w.1)
-      (turned_same code start.args.i waiting bytes (le-ltb 32771 code w.0.left) number))
-      c.before.before.if1.branch
+      subst Turn (sym w.kept-is)
+      (turned_same code start.args.i waiting bytes (le-ltb 32771 code w.if-code-gt32771.false) number))
+      c.if-code-gt32771.branch-raw
 
-same_length : tie.Need-same-length
+same_length : tie.Need-shape_of-kept
 same_length c = (turned c).kept.as_long
 
 returns : tie.Need-returns
 returns c = turned c
 
-pub operate-spec : {M : Type 1} → statement M
-operate-spec =
+pub operate_spec : {M : Type 1} → statement M
+operate_spec =
     tie.close
     (tie.spec (λ c κs. search rules) (λ c κs. search rules) (λ c κs. search rules) (λ c κs. search rules)
     (λ c κs. search rules) (λ c κs. search rules) same_length returns)

@@ -20,5 +20,5 @@ returns c =
     let code = c.args.code in
     any-of-four (eqb code 32768) (eqb code 32772) (eqb code 32773) (eqb code 32774)
 
-pub over-one-spec : {M : Type 1} → statement M
-over-one-spec = tie.close (tie.spec returns)
+pub over_one_spec : {M : Type 1} → statement M
+over_one_spec = tie.close (tie.spec returns)

@@ -18,7 +18,7 @@ bit_le : (b : Bool) → bool_byte b ≤ 1
 bit_le true = lit≤ tt
 bit_le false = lit≤ tt
 
-add-result : tie.Need-overflow-add-result
+add-result : tie.Need-overflow_add-result
 add-result c = omega (arith, bit_le c.args.value)
 
 returns : tie.Need-returns

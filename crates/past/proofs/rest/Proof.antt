@@ -5,13 +5,13 @@ use Rattle.past.specs.Keeping.{left}
 use Rattle.past.proofs.rest.Statement.{statement}
 use Rattle.past.proofs.rest.Tie as tie
 
-returns : tie.Need-returns
+returns : tie.Need-returns-then-over_one
 unfolding left
-returns c = rw (sym c.before.over-one.ensures ∙ c.if1.true)
+returns c = rw (sym c.over_one.ensures ∙ c.if-over_one.true)
 
-returns-2 : tie.Need-returns-2
+returns-2 : tie.Need-returns-else-over_one
 unfolding left
-returns-2 c = rw (sym c.before.over-one.ensures ∙ c.if1.false)
+returns-2 c = rw (sym c.over_one.ensures ∙ c.if-over_one.false)
 
-pub rest-spec : {M : Type 1} → statement M
-rest-spec = tie.close (tie.spec (λ c κs. search rules) returns returns-2)
+pub rest_spec : {M : Type 1} → statement M
+rest_spec = tie.close (tie.spec (λ c κs. search rules) returns returns-2)

@@ -5,13 +5,13 @@ use Rattle.closing.specs.Closing.{numbered}
 use Rattle.past.proofs.stands.Statement.{statement}
 use Rattle.past.proofs.stands.Tie as tie
 
-returns : tie.Need-returns
+returns : tie.Need-returns-then-fact-lt4096
 unfolding numbered
-returns c = rw (lt-ltb _ _ c.before.if1.true)
+returns c = rw (lt-ltb _ _ c.if-fact-lt4096.true)
 
-returns-2 : tie.Need-returns-2
+returns-2 : tie.Need-returns-else-fact-lt4096
 unfolding numbered
-returns-2 c = rw (le-ltb _ _ c.if1.false)
+returns-2 c = rw (le-ltb _ _ c.if-fact-lt4096.false)
 
-pub stands-spec : {M : Type 1} → statement M
-stands-spec = tie.close (tie.spec (λ c. search rules) (λ c. search rules) returns returns-2)
+pub stands_spec : {M : Type 1} → statement M
+stands_spec = tie.close (tie.spec (λ c. search rules) (λ c. search rules) returns returns-2)

@@ -6,15 +6,15 @@ use Rattle.past.proofs.Bits.{turned-fact, turned_operator}
 use Rattle.past.proofs.step.Statement.{statement}
 use Rattle.past.proofs.step.Tie as tie
 
-returns : tie.Need-returns
+returns : tie.Need-returns-then-code-lt32768
 returns c =
-    turned-fact _ _ _ _ _ (lt-ltb _ _ c.before.before.if1.true)
-    (c.push.ensures ∙ rw c.before.stands.ensures)
+    turned-fact _ _ _ _ _ (lt-ltb _ _ c.if-code-lt32768.true)
+    (c.push.ensures ∙ rw c.stands.ensures)
 
-returns-2 : tie.Need-returns-2
+returns-2 : tie.Need-returns
 returns-2 c =
-    turned_operator _ _ _ _ _ (le-ltb _ _ c.before.before.before.before.if1.false)
-    c.before.before.operate.ensures
+    turned_operator _ _ _ _ _ (le-ltb _ _ c.if-code-lt32768.false)
+    c.operate.ensures
 
 pub step_spec : {M : Type 1} → statement M
 step_spec =

@@ -22,49 +22,48 @@ record Inv (list set₀ set : List ℕ) (width at : ℕ) : Type 0 where
   is : (g : ℕ)
       → (within width set g || listed (words (drop at list)) g) ≡ (within width set₀ g || listed (words list) g)
 
-abbrev invariant-loop : tie.invariant-loop
+abbrev invariant-loop : tie.invariant-loop-at
 invariant-loop list set₀ width at₀ set at = Inv list set₀ set width at
 
-abbrev decreases-loop : tie.decreases-loop
+abbrev decreases-loop : tie.decreases-loop-at
 decreases-loop list set₀ width at₀ set at = length list - at
 
-loop-holds : tie.Need-loop-init invariant-loop decreases-loop
+loop-holds : tie.Need-loop-at-init invariant-loop decreases-loop
 loop-holds c =
     record {
       within-list = omega arith;
-      room = c.before.before.requires.1;
-      known = c.before.before.requires.0.below;
+      room = c.requires.1;
+      known = c.requires.0.below;
       kept = kept_same _;
       is = λ g. refl;
     }
 
-sub-loop : tie.Need-overflow-sub-loop invariant-loop decreases-loop
+sub-loop : tie.Need-overflow_sub-list invariant-loop decreases-loop
 sub-loop c = omega arith
 
-word-at-requires : tie.Need-word-at-requires invariant-loop decreases-loop
+word-at-requires : tie.Need-word_at-requires invariant-loop decreases-loop
 word-at-requires c κs = omega arith
 
 add-requires : tie.Need-add-requires invariant-loop decreases-loop
 add-requires c κs = tt
 
-add_at : tie.Need-overflow-add-at invariant-loop decreases-loop
+add_at : tie.Need-overflow_add-at invariant-loop decreases-loop
 add_at c = omega arith
 
-loop-less : tie.Need-loop-smaller invariant-loop decreases-loop
+loop-less : tie.Need-loop-at-smaller invariant-loop decreases-loop
 loop-less c = omega arith
 
-loop-again : tie.Need-loop-preserved invariant-loop decreases-loop
+loop-again : tie.Need-loop-at-preserved invariant-loop decreases-loop
 loop-again c =
-    let loop = c.before.before.before.before.before.before in
-    let args = loop.before.before.before.args in
+    let args = c.args in
     let list = args.list.now in
     let w = args.width in
-    let at = loop.loop.at in
-    let here = known-here (8 * w) list at (omega arith) loop.loop.invariant.known in
-    let added = c.before.before.add.ensures in
-    let set = loop.loop.set in
-    let next = c.before.before.add.new.0 in
-    let number = c.before.before.before.word_at in
+    let at = c.loop-at.at in
+    let here = known-here (8 * w) list at (omega arith) c.loop-at.invariant.known in
+    let added = c.add.ensures in
+    let set = c.loop-at.set in
+    let next = c.add.new.set in
+    let number = c.word_at in
     let one : (g : ℕ) → within w next g ≡ (within w set g || eqb g (word (drop at list))) =
     λ g. added.set g
     ∙ rw (room_in w set number.result (omega (arith, number.ensures)), ← number.ensures)
@@ -74,23 +73,23 @@ loop-again c =
       within-list = omega arith;
       room = omega (arith, added.kept.as_long);
       known = here.1;
-      kept = kept_trans loop.loop.invariant.kept added.kept;
-      is = λ g. done g ∙ loop.loop.invariant.is g;
+      kept = kept_trans c.loop-at.invariant.kept added.kept;
+      is = λ g. done g ∙ c.loop-at.invariant.is g;
     }
 
-same_length : tie.Need-same-length invariant-loop decreases-loop
-same_length c = c.before.loop.invariant.kept.as_long
+same_length : tie.Need-shape_of-set invariant-loop decreases-loop
+same_length c = c.loop-at.invariant.kept.as_long
 
 returns : tie.Need-returns invariant-loop decreases-loop
 returns c =
-    let loop = c.before.loop in
-    let args = c.before.before.before.before.args in
+    let loop = c.loop-at in
+    let args = c.args in
     let done =
     done_all args.width (λ g. ◌||◌) add_idle add_twice args.list.now loop.set loop.at (omega arith) in
     record { set = λ g. sym (done g) ∙ loop.invariant.is g; kept = loop.invariant.kept }
 
-pub add-all-spec : {M : Type 1} → statement M
-add-all-spec =
+pub add_all_spec : {M : Type 1} → statement M
+add_all_spec =
     tie.close
     (tie.spec invariant-loop decreases-loop loop-holds sub-loop word-at-requires add-requires add_at loop-less loop-again same_length
     returns)

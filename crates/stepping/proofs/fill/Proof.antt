@@ -8,16 +8,16 @@ use Rattle.stepping.proofs.fill.Tie as tie
 clear-requires : tie.Need-clear-requires
 clear-requires c κs = search rules
 
-add-all-requires : tie.Need-add-all-requires
+add-all-requires : tie.Need-add_all-requires
 add-all-requires c κs = search rules
 
-same_length : tie.Need-same-length
+same_length : tie.Need-shape_of-set
 same_length c = search rules
 
 returns : tie.Need-returns
 returns c =
-    let added = c.before.before.add-all.ensures in
-    let cleared = c.before.before.before.before.before.before.clear.ensures in
+    let added = c.add_all.ensures in
+    let cleared = c.clear.ensures in
     record { set = λ g. added.set g ∙ rw (cleared.set g); kept = kept_trans cleared.kept added.kept }
 
 pub fill_spec : {M : Type 1} → statement M

@@ -29,19 +29,19 @@ record Inv (list persistent state₀ state : List ℕ) (at : ℕ) : Type 0 where
       → gone persistent g (members state g) (listed (words (drop at list)) g)
       ≡ gone persistent g (members state₀ g) (listed (words list) g)
 
-abbrev invariant-loop : tie.invariant-loop
+abbrev invariant-loop : tie.invariant-loop-at
 invariant-loop list persistent state₀ at₀ state at = Inv list persistent state₀ state at
 
-abbrev decreases-loop : tie.decreases-loop
+abbrev decreases-loop : tie.decreases-loop-at
 decreases-loop list persistent state₀ at₀ state at = length list - at
 
 -- the fact at hand is gone, unless it is persistent
-module _ (c : tie.Joined1 invariant-loop decreases-loop) where
-  abbrev loop : tie.At-loop invariant-loop decreases-loop
+module _ (c : tie.Joined-not-has invariant-loop decreases-loop) where
+  abbrev loop : tie.At-loop-at invariant-loop decreases-loop
   loop = c.before.before.before.before
 
   abbrev start : tie.Start invariant-loop decreases-loop
-  start = loop.before.before.before.before
+  start = c.before.before.before.before.before.before.before.before
 
   abbrev list : List ℕ
   list = start.args.list.now
@@ -50,81 +50,80 @@ module _ (c : tie.Joined1 invariant-loop decreases-loop) where
   persistent = start.args.persistent.now
 
   abbrev fact : ℕ
-  fact = c.before.before.word_at.result
+  fact = c.word_at-fact.result
 
   abbrev Done : List ℕ → Type 0
-  Done state = Holds 512 loop.loop.state state (λ g. gone persistent g (members loop.loop.state g) (eqb g fact))
+  Done state = Holds 512 loop.loop-at.state state (λ g. gone persistent g (members loop.loop-at.state g) (eqb g fact))
 
-  done-here : Done c.if1.state
+  done-here : Done c.if-not-has.state
   done-here =
-      let known = c.before.has.ensures in
+      let known = c.has.ensures in
       ⊎_elim
       (λ w.
-      let removed = w.2.ensures in
-      let other = sym known ∙ not-true _ w.0.taken in
-      subst Done (sym w.5) (record {
+      let removed = w.remove.ensures in
+      let other = sym known ∙ w.if-not-has.true in
+      subst Done (sym w.state-is) (record {
         set = λ g.
-            removed.set g ∙ sym (takes (listed (words persistent)) fact other g (members loop.loop.state g));
+            removed.set g ∙ sym (takes (listed (words persistent)) fact other g (members loop.loop-at.state g));
         kept = removed.kept;
       }))
       (λ w.
-      let stays = sym known ∙ not-false _ w.0.left in
-      subst Done (sym w.1) (record {
-        set = λ g. sym (keeps (listed (words persistent)) fact stays g (members loop.loop.state g));
+      let stays = sym known ∙ w.if-not-has.false in
+      subst Done (sym w.state-is) (record {
+        set = λ g. sym (keeps (listed (words persistent)) fact stays g (members loop.loop-at.state g));
         kept = kept_same _;
       }))
-      c.if1.branch
+      c.if-not-has.branch-raw
 
-loop-holds : tie.Need-loop-init invariant-loop decreases-loop
+loop-holds : tie.Need-loop-at-init invariant-loop decreases-loop
 loop-holds c = record { within = omega arith; kept = kept_same _; facts = λ g. refl }
 
-sub-loop : tie.Need-overflow-sub-loop invariant-loop decreases-loop
+sub-loop : tie.Need-overflow_sub-list invariant-loop decreases-loop
 sub-loop c = omega arith
 
-word-at-requires : tie.Need-word-at-requires invariant-loop decreases-loop
+word-at-requires : tie.Need-word_at-fact-requires invariant-loop decreases-loop
 word-at-requires c κs = omega arith
 
 has-requires : tie.Need-has-requires invariant-loop decreases-loop
-has-requires c κs = c.before.before.before.before.before.before.requires
+has-requires c κs = c.requires
 
 remove-requires : tie.Need-remove-requires invariant-loop decreases-loop
 remove-requires c κs = tt
 
-add_at : tie.Need-overflow-add-at invariant-loop decreases-loop
+add_at : tie.Need-overflow_add-at invariant-loop decreases-loop
 add_at c = omega arith
 
-loop-less : tie.Need-loop-smaller invariant-loop decreases-loop
+loop-less : tie.Need-loop-at-smaller invariant-loop decreases-loop
 loop-less c = omega arith
 
-loop-again : tie.Need-loop-preserved invariant-loop decreases-loop
+loop-again : tie.Need-loop-at-preserved invariant-loop decreases-loop
 loop-again c =
     let k = listed (words (persistent c)) in
-    let at = (loop c).loop.at in
-    let state = (loop c).loop.state in
-    let next = c.if1.state in
+    let at = c.loop-at.at in
+    let state = c.loop-at.state in
+    let next = c.if-not-has.state in
     let one : (g : ℕ) → members next g ≡ without k g (members state g) (eqb g (word (drop at (list c)))) =
-    λ g. (done-here c).set g ∙ rw (← c.before.before.word_at.ensures) in
+    λ g. (done-here c).set g ∙ rw (← c.word_at-fact.ensures) in
     let done = done-one 512 (without k) (remove_idle k) (remove_twice k) (list c) state next at (omega arith) one in
     record {
       within = omega arith;
-      kept = kept_trans (loop c).loop.invariant.kept (done-here c).kept;
-      facts = λ g. done g ∙ (loop c).loop.invariant.facts g;
+      kept = kept_trans c.loop-at.invariant.kept (done-here c).kept;
+      facts = λ g. done g ∙ c.loop-at.invariant.facts g;
     }
 
-same_length : tie.Need-same-length invariant-loop decreases-loop
-same_length c = c.before.loop.invariant.kept.as_long
+same_length : tie.Need-shape_of-state invariant-loop decreases-loop
+same_length c = c.loop-at.invariant.kept.as_long
 
 returns : tie.Need-returns invariant-loop decreases-loop
 returns c =
-    let loop = c.before.loop in
-    let start = c.before.before.before.before.before in
-    let list = start.args.list.now in
-    let k = listed (words start.args.persistent.now) in
+    let loop = c.loop-at in
+    let list = c.args.list.now in
+    let k = listed (words c.args.persistent.now) in
     let done = done_all 512 (without k) (remove_idle k) (remove_twice k) list loop.state loop.at (omega arith) in
     record { set = λ g. sym (done g) ∙ loop.invariant.facts g; kept = loop.invariant.kept }
 
-pub remove-all-spec : {M : Type 1} → statement M
-remove-all-spec =
+pub remove_all_spec : {M : Type 1} → statement M
+remove_all_spec =
     tie.close
     (tie.spec invariant-loop decreases-loop loop-holds sub-loop word-at-requires has-requires remove-requires add_at loop-less
     loop-again same_length returns)

@@ -12,64 +12,60 @@ use Rattle.stepping.proofs.conditions.meets.Statement.{statement}
 use Rattle.stepping.proofs.conditions.meets.Tie as tie
 
 -- the fact has an entry
-small : (c : tie.After-c) → c.c.given.0.0 < 4096
+small : (c : tie.In-Positive) → c.in-Positive.f < 4096
 unfolding KnownIn condition_of
-small c = rw c.c.given.1 at c.before.before.before.before.requires.0
+small c = rw c.in-Positive.is at c.requires.0
 
-small2 : (c : tie.After-c2) → c.c2.given.0.0 < 4096
+small2 : (c : tie.In-Negative) → c.in-Negative.f < 4096
 unfolding KnownIn condition_of
-small2 c = rw c.c2.given.1 at c.before.before.before.before.requires.0
+small2 c = rw c.in-Negative.is at c.requires.0
 
 not-not : (b : Bool) → not (not b) ≡ b
 not-not true = refl
 not-not false = refl
 
-enum-known-c : tie.Need-enum-known-c
+enum-known-c : tie.Need-enum_known-c
 enum-known-c c = search rules
 
-mul-result : tie.Need-overflow-mul-result
-mul-result c = omega (arith, small c.before)
+mul-result : tie.Need-offset_bounds-table-f
+mul-result c = omega (arith, small c)
 
-shared-slice-read-result : tie.Need-shared-slice-read-result
+shared-slice-read-result : tie.Need-bounds-table-f
 shared-slice-read-result c =
-    let told = c.before.before in
-    omega (arith, small told, told.before.before.before.before.requires.1)
+    omega (arith, small c.before, c.requires.1)
 
-enum-known-c-2 : tie.Need-enum-known-c-2
+enum-known-c-2 : tie.Need-enum_known-c-in-Negative-1
 enum-known-c-2 c = search rules
 
-mul-result-2 : tie.Need-overflow-mul-result-2
-mul-result-2 c = omega (arith, small2 c.before)
+mul-result-2 : tie.Need-offset_bounds-table-f-in-Negative
+mul-result-2 c = omega (arith, small2 c)
 
-shared-slice-read-result-2 : tie.Need-shared-slice-read-result-2
+shared-slice-read-result-2 : tie.Need-bounds-table-f-in-Negative
 shared-slice-read-result-2 c =
-    let told = c.before.before in
-    omega (arith, small2 told, told.before.before.before.before.requires.1)
+    omega (arith, small2 c.before, c.requires.1)
 
-enum-known-c-3 : tie.Need-enum-known-c-3
+enum-known-c-3 : tie.Need-enum_known-c-in-Unused-1
 enum-known-c-3 c = search rules
 
 has-requires : tie.Need-has-requires
 has-requires c κs = search rules
 
-returns : tie.Need-returns
+returns : tie.Need-returns-in-Positive
 unfolding met numbered condition_of
 returns c =
-    let told = c.before.before in
-    rw (told.c.given.1, lt-ltb _ _ (small told))
+    rw (c.in-Positive.is, lt-ltb _ _ (small c.before))
 
-returns-2 : tie.Need-returns-2
+returns-2 : tie.Need-returns-in-Negative
 unfolding met numbered condition_of
 returns-2 c =
-    let told = c.before.before in
-    rw (told.c2.given.1, lt-ltb _ _ (small2 told)) (sym (not-not _))
+    rw (c.in-Negative.is, lt-ltb _ _ (small2 c.before)) (sym (not-not _))
 
-returns-3 : tie.Need-returns-3
+returns-3 : tie.Need-returns-in-Unused
 unfolding met condition_of
-returns-3 c = rw (c.before.before.c3.given.1, c.has.ensures)
+returns-3 c = rw (c.in-Unused.is, c.has.ensures)
 
-pub meets-spec : {M : Type 1} → statement M
-meets-spec =
+pub meets_spec : {M : Type 1} → statement M
+meets_spec =
     tie.close
     (tie.spec
     enum-known-c

@@ -7,54 +7,51 @@ use borrow.Author.Rules.{rules}
 use Rattle.stepping.proofs.conditions.nth.Statement.{statement}
 use Rattle.stepping.proofs.conditions.nth.Tie as tie
 
-add-unused : tie.Need-overflow-add-unused
+add-unused : tie.Need-overflow_add-unused
 add-unused c = search rules
 
-mul-word-at : tie.Need-overflow-mul-word-at
+mul-word-at : tie.Need-overflow_mul-i
 mul-word-at c = search rules
 
-word-at-requires : tie.Need-word-at-requires
+word-at-requires : tie.Need-word_at-requires
 word-at-requires c κs = search rules
 
-mul-word-at-2 : tie.Need-overflow-mul-word-at-2
+mul-word-at-2 : tie.Need-overflow_mul-i-then-i-unused
 mul-word-at-2 c = search rules
 
-word-at-requires-2 : tie.Need-word-at-requires-2
+word-at-requires-2 : tie.Need-word_at-requires-then-i-unused
 word-at-requires-2 c κs = search rules
 
-mul-word-at-3 : tie.Need-overflow-mul-word-at-3
+mul-word-at-3 : tie.Need-overflow_mul-i-else-i-unused
 mul-word-at-3 c = search rules
 
-word-at-requires-3 : tie.Need-word-at-requires-3
+word-at-requires-3 : tie.Need-word_at-requires-else-i-unused
 word-at-requires-3 c κs = search rules
 
-returns : tie.Need-returns
+returns : tie.Need-returns-then-i-negative
 unfolding condition_of
 returns c =
-    let s = c.before.before.before.before.before in
-    let args = s.args in
+    let args = c.args in
     ap positive c.word_at.ensures
-    ∙ sym (asks-positive args.p.now args.n.now args.names.now args.i c.before.if1.true)
+    ∙ sym (asks-positive args.p.now args.n.now args.names.now args.i c.if-i-negative.true)
 
-returns-2 : tie.Need-returns-2
+returns-2 : tie.Need-returns-then-i-unused
 unfolding condition_of
 returns-2 c =
-    let e = c.before.before in
-    let args = e.before.before.before.before.args in
-    ap negative c.word-at2.ensures
-    ∙ sym (asks-negative args.p.now args.n.now args.names.now args.i e.if1.false
-    c.before.if2.true)
+    let args = c.args in
+    ap negative c.word_at-then-i-unused.ensures
+    ∙ sym (asks-negative args.p.now args.n.now args.names.now args.i c.if-i-negative.false
+    c.if-i-unused.true)
 
-returns-3 : tie.Need-returns-3
+returns-3 : tie.Need-returns-else-i-unused
 unfolding condition_of
 returns-3 c =
-    let s = c.before.before.before.before.before.before in
-    let args = s.args in
-    ap unused c.word-at3.ensures
-    ∙ sym (asks-unused args.p.now args.n.now args.names.now args.i c.before.if2.false s.requires)
+    let args = c.args in
+    ap unused c.word_at-else-i-unused.ensures
+    ∙ sym (asks-unused args.p.now args.n.now args.names.now args.i c.if-i-unused.false c.requires)
 
-pub nth-spec : {M : Type 1} → statement M
-nth-spec =
+pub nth_spec : {M : Type 1} → statement M
+nth_spec =
     tie.close
     (tie.spec add-unused mul-word-at word-at-requires mul-word-at-2 word-at-requires-2 mul-word-at-3 word-at-requires-3
     returns returns-2 returns-3)

@@ -7,42 +7,42 @@ use Rattle.stepping.proofs.conditions.round_of.Statement.{statement}
 use Rattle.stepping.proofs.conditions.round_of.Tie as tie
 
 -- the fact has an entry
-small : (c : tie.After-c) → c.c.given.0.0 < 4096
+small : (c : tie.In-Negative) → c.in-Negative.f < 4096
 unfolding KnownIn condition_of
-small c = rw c.c.given.1 at c.before.before.requires.0
+small c = rw c.in-Negative.is at c.requires.0
 
-enum_told : tie.Need-enum-told
+enum_told : tie.Need-enum_told-1
 enum_told c = search rules
 
-enum-known-c : tie.Need-enum-known-c
+enum-known-c : tie.Need-enum_known-c
 enum-known-c c = search rules
 
-mul-result : tie.Need-overflow-mul-result
-mul-result c = omega (arith, small c.before)
+mul-result : tie.Need-offset_bounds-table-f
+mul-result c = omega (arith, small c)
 
-shared-slice-read-result : tie.Need-shared-slice-read-result
-shared-slice-read-result c = omega (arith, small c.before.before, c.before.before.before.before.requires.1)
+shared-slice-read-result : tie.Need-bounds-table-f
+shared-slice-read-result c = omega (arith, small c.before, c.requires.1)
 
-cast-result : tie.Need-overflow-cast-result
-cast-result c = omega (arith, c.shared-slice-known.given c.before.before.c.given.0.0)
+cast-result : tie.Need-overflow_cast-result
+cast-result c = omega (arith, c.shared_slice_known-1.given c.in-Negative.f)
 
-enum-told-2 : tie.Need-enum-told-2
+enum-told-2 : tie.Need-enum_told-in-Unused
 enum-told-2 c = search rules
 
-returns : tie.Need-returns
+returns : tie.Need-returns-in-Positive
 unfolding round_in condition_of
-returns c = rw c.enum_told.given.1
+returns c = rw c.in-Positive.is
 
-returns-2 : tie.Need-returns-2
+returns-2 : tie.Need-returns-in-Negative
 unfolding round_in condition_of
-returns-2 c = rw c.before.before.c.given.1
+returns-2 c = rw c.in-Negative.is
 
-returns-3 : tie.Need-returns-3
+returns-3 : tie.Need-returns-in-Unused
 unfolding round_in condition_of
-returns-3 c = rw c.enum-told2.given.1
+returns-3 c = rw c.in-Unused.is
 
-pub round-of-spec : {M : Type 1} → statement M
-round-of-spec =
+pub round_of_spec : {M : Type 1} → statement M
+round_of_spec =
     tie.close
     (tie.spec
     enum_told

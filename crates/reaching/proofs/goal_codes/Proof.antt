@@ -10,24 +10,22 @@ use Rattle.files.proofs.Traces.{pair_shape, pair_fits, pair_entries, pair_goal-k
 use Rattle.reaching.proofs.goal_codes.Statement.{statement}
 use Rattle.reaching.proofs.goal_codes.Tie as tie
 
-goal-of-requires : tie.Need-goal-of-requires
+goal-of-requires : tie.Need-goal_of-requires
 goal-of-requires c κs =
-    let s = c.before.before in
-    (pair_fits _ _ s.requires, omega (arith, pair_entries _ _ s.requires))
+    (pair_fits _ _ c.requires, omega (arith, pair_entries _ _ c.requires))
 
 formula-requires : tie.Need-formula-requires
 formula-requires c κs =
-    let s = c.before.before.before in (
-      pair_shape _ _ s.requires,
-      subst (λ g. g < length (aims (model_of_lem s.args.model.now))) (sym c.goal_of_lem.ensures)
-          (pair_goal-known _ _ s.requires),
+ (
+      pair_shape _ _ c.requires,
+      subst (λ g. g < length (aims (model_of_lem c.args.model.now))) (sym c.goal_of.ensures)
+          (pair_goal-known _ _ c.requires),
     )
 
 returns : tie.Need-returns
 returns c =
-    let s = c.before.before.before.before in
-    subst (λ g. GoalCodes s.args.model.now g c.formula.result.now) c.before.goal_of_lem.ensures
+    subst (λ g. GoalCodes c.args.model.now g c.formula.result.now) c.goal_of.ensures
     c.formula.ensures
 
-pub goal-codes-spec : {M : Type 1} → statement M
-goal-codes-spec = tie.close (tie.spec goal-of-requires formula-requires returns)
+pub goal_codes_spec : {M : Type 1} → statement M
+goal_codes_spec = tie.close (tie.spec goal-of-requires formula-requires returns)

@@ -11,11 +11,11 @@ use Rattle.reaching.proofs.goal_of.Tie as tie
 entries-requires : tie.Need-entries-requires
 entries-requires c κs = search rules
 
-word-at-requires : tie.Need-word-at-requires
+word-at-requires : tie.Need-word_at-requires
 word-at-requires c κs = omega (arith, ap length c.entries.ensures)
 
 returns : tie.Need-returns
-returns c = c.word_at.ensures ∙ ap word c.before.entries.ensures ∙ sym (goal-entry _)
+returns c = c.word_at.ensures ∙ ap word c.entries.ensures ∙ sym (goal-entry _)
 
-pub goal-of-spec : {M : Type 1} → statement M
-goal-of-spec = tie.close (tie.spec entries-requires word-at-requires returns)
+pub goal_of_spec : {M : Type 1} → statement M
+goal_of_spec = tie.close (tie.spec entries-requires word-at-requires returns)

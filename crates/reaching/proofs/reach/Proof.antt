@@ -24,72 +24,65 @@ section-of c = c.before.before.before.before
 abbrev begun : tie.After-search → tie.After-begin
 begun c = c.before.before.before.before.before.before.before.before.before
 
-abbrev found_of : tie.After-slice-known10 → tie.After-search
+abbrev found_of : tie.After-slice_known-10-1 → tie.After-search
 found_of c = c.before.before.before.before.before.before.before.before
 
 section-requires : tie.Need-section-requires
 section-requires c κs =
-    let s = c.before.before.before.before.before.before.before.before.before.before in
-    pair_shape _ _ s.requires.0.fine
+    pair_shape _ _ c.requires.0.fine
 
 names-requires : tie.Need-names-requires
-names-requires c κs = pair_shape _ _ (start c).requires.0.fine
+names-requires c κs = pair_shape _ _ c.requires.0.fine
 
 begin-requires : tie.Need-begin-requires
 begin-requires c κs =
-    let n = c.before.before in
-    let s = start n.before in (
-      subst Known (sym n.before.section.ensures) (initial-known _ (pair_shape _ _ s.pre.0.fine)),
-      n.names.ensures.1,
-      s.pre.0.room,
-      s.pre.0.names,
+ (
+      subst Known (sym c.section.ensures) (initial-known _ (pair_shape _ _ c.requires.0.fine)),
+      c.names.ensures.1,
+      c.requires.0.room,
+      c.requires.0.names,
     )
 
 search-requires : tie.Need-search-requires
 unfolding model_of_lem meant.start
 search-requires c κs =
-    let b = c.before.before.before.before.before.before.before.before in
-    let s = start (section-of b) in
-    let facts = b.begin.ensures.0 in
-    let names = b.begin.ensures.1 in
-    let initial = (section-of b).section.ensures in
-    let in_use = b.before.before.before.names.ensures.0 in (
+    let facts = c.begin.ensures.0 in
+    let names = c.begin.ensures.1 in
+    let initial = c.section.ensures in
+    let in_use = c.names.ensures.0 in (
       record {
-        fine = s.pre.0.fine;
-        room = omega (arith, facts.kept.as_long, s.pre.0.room);
-        entries = s.pre.0.entries;
-        names = omega (arith, names.kept.as_long, s.pre.0.names);
+        fine = c.requires.0.fine;
+        room = omega (arith, facts.kept.as_long, c.requires.0.room);
+        entries = c.requires.0.entries;
+        names = omega (arith, names.kept.as_long, c.requires.0.names);
       },
       λ i. record {
         facts = fun_ext (λ g. facts.set g ∙ ap (λ (l : List ℕ). listed (words l) g) initial) i;
         names = fun_ext (λ g. names.set g ∙ ap (λ (l : List ℕ). listed l g) in_use) i;
       },
-      s.pre.1,
-      s.pre.2,
-      s.pre.3,
+      c.requires.1,
+      c.requires.2,
+      c.requires.3,
     )
 
-same_length : tie.Need-same-length
+same_length : tie.Need-shape_of-state
 same_length c =
-    let found = found_of c in
-    found.search.ensures.kept.as_long ∙ (begun found).begin.ensures.0.kept.as_long
+    c.search.ensures.kept.as_long ∙ c.begin.ensures.0.kept.as_long
 
-same-length-2 : tie.Need-same-length-2
-same-length-2 c = (found_of c).search.ensures.as_long
+same-length-2 : tie.Need-shape_of-table
+same-length-2 c = c.search.ensures.as_long
 
-same-length-3 : tie.Need-same-length-3
+same-length-3 : tie.Need-shape_of-names
 same-length-3 c =
-    let found = found_of c in
-    found.search.ensures.names-kept.as_long ∙ (begun found).begin.ensures.1.kept.as_long
+    c.search.ensures.names-kept.as_long ∙ c.begin.ensures.1.kept.as_long
 
-same-length-4 : tie.Need-same-length-4
+same-length-4 : tie.Need-shape_of-kept
 same-length-4 c = search rules
 
 returns : tie.Need-returns
 returns c =
-    let found = found_of c in
-    let began = (begun found).begin.ensures in
-    let led = found.search.ensures in
+    let began = c.begin.ensures in
+    let led = c.search.ensures in
     record {
       fired = led.fired;
       stop = led.stop;
@@ -106,8 +99,8 @@ returns c =
       bound = led.bound;
     }
 
-pub reach-spec : {M : Type 1} → statement M
-reach-spec =
+pub reach_spec : {M : Type 1} → statement M
+reach_spec =
     tie.close
     (tie.spec
     section-requires

@@ -33,194 +33,171 @@ use Rattle.reaching.proofs.search.Tie as tie
 
 -- ---- the needs
 
-entries-requires : tie.Need-entries-requires Inv-loop μ-loop Inv-search μ-search
+entries-requires : tie.Need-entries-entries-requires Inv-loop μ-loop Inv-search μ-search
 entries-requires c κs =
-    let s = c.before.before.before.before.before.before.before.before.before.before in
-    pair_fits s.args.model.now s.args.trace.now s.requires.0.fine
+    pair_fits c.args.model.now c.args.trace.now c.requires.0.fine
 
-sub-steps : tie.Need-overflow-sub-steps Inv-loop μ-loop Inv-search μ-search
+sub-steps : tie.Need-overflow_sub-steps Inv-loop μ-loop Inv-search μ-search
 sub-steps c =
-    let s = c.before.before.before.before.before.before.before.before.before.before.before in
     omega (
       arith,
-      ap length c.entries.ensures,
-      pair_entries s.args.model.now s.args.trace.now s.requires.0.fine,
+      ap length c.entries-entries.ensures,
+      pair_entries c.args.model.now c.args.trace.now c.requires.0.fine,
     )
 
-section-requires : tie.Need-section-requires Inv-loop μ-loop Inv-search μ-search
+section-requires : tie.Need-section-persistent-requires Inv-loop μ-loop Inv-search μ-search
 section-requires c κs =
-    let s = c.before.before.before.before.before.before.before.before.before.before.before in
-    pair_shape s.args.model.now s.args.trace.now s.requires.0.fine
+    pair_shape c.args.model.now c.args.trace.now c.requires.0.fine
 
 search-holds : tie.Need-search-init Inv-loop μ-loop Inv-search μ-search
 search-holds c =
-    let s = c.before.before.before.before.before.before.before.before.before.before.before.before in
-    on-start _ _ _ s.requires.1 s.requires.3
+    on-start _ _ _ c.requires.1 c.requires.3
 
-close-judged-requires : tie.Need-close-judged-requires Inv-loop μ-loop Inv-search μ-search
-close-judged-requires c κs = let s = c.before.before.before in (shape s, long s, (start s).requires.4)
+close-judged-requires : tie.Need-close_judged-rounds-requires Inv-loop μ-loop Inv-search μ-search
+close-judged-requires c κs = (shape c.before.before, long c.before.before, c.requires.4)
 
-add_rounds : tie.Need-overflow-add-rounds Inv-loop μ-loop Inv-search μ-search
+add_rounds : tie.Need-overflow_add-rounds Inv-loop μ-loop Inv-search μ-search
 add_rounds c =
-    let s = at-closing c.before.before in
-    omega (arith, (on s).bound, (on s).within, few-steps s, few-more c.before.before)
+    omega (arith, (on c.before.before.before.before.before).bound, (on c.before.before.before.before.before).within, few-steps c.before.before.before.before.before, few-more c.before.before)
 
-mul-word-at : tie.Need-overflow-mul-word-at Inv-loop μ-loop Inv-search μ-search
-mul-word-at c = let s = at-closing c.before.before in omega (arith, (on s).within, few-steps s)
+mul-word-at : tie.Need-overflow_mul-fired Inv-loop μ-loop Inv-search μ-search
+mul-word-at c = omega (arith, (on c.before.before.before.before.before).within, few-steps c.before.before.before.before.before)
 
-add-word-at : tie.Need-overflow-add-word-at Inv-loop μ-loop Inv-search μ-search
-add-word-at c = let s = at-closing c.before.before in omega (arith, (on s).within, few-steps s)
+add-word-at : tie.Need-overflow_add-fired Inv-loop μ-loop Inv-search μ-search
+add-word-at c = omega (arith, (on c.before.before.before.before.before).within, few-steps c.before.before.before.before.before)
 
-word-at-requires : tie.Need-word-at-requires Inv-loop μ-loop Inv-search μ-search
+word-at-requires : tie.Need-word_at-requires Inv-loop μ-loop Inv-search μ-search
 word-at-requires c κs =
-    let s = at-closing c.before.before in
-    omega (arith, step-there c.before.before, entries-size s)
+    omega (arith, step-there c.before.before, entries-size c.before.before.before.before.before)
 
-record-requires : tie.Need-record-requires Inv-loop μ-loop Inv-search μ-search
-record-requires c κs = (shape (at-rule c), rule-there _ (known-rule c))
+record-requires : tie.Need-record-rule-requires Inv-loop μ-loop Inv-search μ-search
+record-requires c κs = (shape c.before.before.before.before.before.before, rule-there _ (known-rule c))
 
-rule-list-requires : tie.Need-rule-list-requires Inv-loop μ-loop Inv-search μ-search
+rule-list-requires : tie.Need-rule_list-p-requires Inv-loop μ-loop Inv-search μ-search
 unfolding list_count_lem
 rule-list-requires c κs = (cut_of c, lit< tt)
 
-rule-list-requires-2 : tie.Need-rule-list-requires-2 Inv-loop μ-loop Inv-search μ-search
+rule-list-requires-2 : tie.Need-rule_list-n-requires Inv-loop μ-loop Inv-search μ-search
 unfolding list_count_lem
 rule-list-requires-2 c κs = (cut_of c.before, lit< tt)
 
-made-requires : tie.Need-made-requires Inv-loop μ-loop Inv-search μ-search
+made-requires : tie.Need-made-made-requires Inv-loop μ-loop Inv-search μ-search
 made-requires c κs =
-    let r = c.before.before in
-    let m = model (at-rule r.before) in (
-      shape (at-rule r.before),
-      rw r.record.ensures (record_in_lem (records (section_of m Rules)) _ (rule-there m (known-rule r.before))),
+    let m = model c.before.before.before.before.before.before.before.before.before in (
+      shape c.before.before.before.before.before.before.before.before.before,
+      rw c.record-rule.ensures (record_in_lem (records (section_of m Rules)) _ (rule-there m (known-rule c.before.before.before))),
     )
 
-count-requires : tie.Need-count-requires Inv-loop μ-loop Inv-search μ-search
+count-requires : tie.Need-count-count-requires Inv-loop μ-loop Inv-search μ-search
 count-requires c κs = search rules
 
-loop-holds : tie.Need-loop-init Inv-loop μ-loop Inv-search μ-search
+loop-holds : tie.Need-loop-i-init Inv-loop μ-loop Inv-search μ-search
 loop-holds c = looking_start _ _ _
 
-nth-requires : tie.Need-nth-requires Inv-loop μ-loop Inv-search μ-search
+nth-requires : tie.Need-nth-c-requires Inv-loop μ-loop Inv-search μ-search
 nth-requires c κs = (below c).0
 
 meets-requires : tie.Need-meets-requires Inv-loop μ-loop Inv-search μ-search
 meets-requires c κs =
-    let l = c.before.before.before in
-    let nth = c.before.before.nth.ensures in
-    (rw nth (asks-known _ _ _ _ (known-P (lists l)) (known-N (lists l)) (below l).0), table-long (lists l))
+    let nth = c.nth-c.ensures in
+    (rw nth (asks-known _ _ _ _ (known-P c.before.before.before.before) (known-N c.before.before.before.before) (below c.before).0), table-long c.before.before.before.before)
 
-add-i : tie.Need-overflow-add-i Inv-loop μ-loop Inv-search μ-search
-add-i c = omega (arith, (below c.before.before.before.before.before).0)
+add-i : tie.Need-overflow_add-i Inv-loop μ-loop Inv-search μ-search
+add-i c = omega (arith, (below c.before.before.before).0)
 
-loop-less : tie.Need-loop-smaller Inv-loop μ-loop Inv-search μ-search
+loop-less : tie.Need-loop-i-smaller Inv-loop μ-loop Inv-search μ-search
 loop-less c = omega arith
 
-loop-again : tie.Need-loop-preserved Inv-loop μ-loop Inv-search μ-search
+loop-again : tie.Need-loop-i-preserved Inv-loop μ-loop Inv-search μ-search
 loop-again c =
-    let l = c.before.before.before.before.before in
-    let nth = c.before.before.before.before.nth.ensures in
-    looking_next _ l.before.loop.invariant _ (below l).1
-    (rw nth at (sym c.before.meets.ensures ∙ not-false _ c.if2.false))
+    let nth = c.nth-c.ensures in
+    looking_next _ c.loop-i.invariant _ (below c.before.before.before).1
+    (rw nth at (sym c.meets.ensures ∙ c.if-not-meets.false))
 
-rule-list-requires-3 : tie.Need-rule-list-requires-3 Inv-loop μ-loop Inv-search μ-search
+rule-list-requires-3 : tie.Need-rule_list-a-requires Inv-loop μ-loop Inv-search μ-search
 unfolding list_count_lem
 rule-list-requires-3 c κs = (
-  cut_of (record_of c.before.before.before.before.before.before.before.before),
+  cut_of c.before.before.before.before.before.before.before.before.before.before,
   lit< tt,
 )
 
 advance-requires : tie.Need-advance-requires Inv-loop μ-loop Inv-search μ-search
-advance-requires c κs = table-long c.before.before.before.before.before
+advance-requires c κs = table-long c.before.before.before.before
 
 apply-requires : tie.Need-apply-requires Inv-loop μ-loop Inv-search μ-search
 apply-requires c κs =
-    let a = c.before.before in
-    let s = here (lists-3 a) in (
-      known-A a,
-      rw s.before.section.ensures (persistent-ascending (model s) (shape s)),
-      (lists-3 a).made.ensures.1,
-      room s,
-      names-room s,
+ (
+      known-A c.before.before,
+      rw c.section-persistent.ensures (persistent-ascending (model c.before.before.before.before.before.before.before.before.before.before.before.before.before.before.before.before.before.before.before.before) (shape c.before.before.before.before.before.before.before.before.before.before.before.before.before.before.before.before.before.before.before.before)),
+      c.made-made.ensures.1,
+      room c.before.before.before.before.before.before.before.before.before.before.before.before.before.before.before.before.before.before.before.before,
+      names-room c.before.before.before.before.before.before.before.before.before.before.before.before.before.before.before.before.before.before.before.before,
     )
 
-add-fired : tie.Need-overflow-add-fired Inv-loop μ-loop Inv-search μ-search
+add-fired : tie.Need-overflow_add-fired-in-search Inv-loop μ-loop Inv-search μ-search
 add-fired c =
-    let s = here (lists-3 c.before.before.before.before.before.before.before) in
-    omega (arith, (on s).within, few-steps s)
+    omega (arith, (on c.before.before.before.before.before.before.before.before.before.before.before.before.before.before.before.before.before.before.before.before.before.before.before.before.before).within, few-steps c.before.before.before.before.before.before.before.before.before.before.before.before.before.before.before.before.before.before.before.before.before.before.before.before.before)
 
 search-less : tie.Need-search-smaller Inv-loop μ-loop Inv-search μ-search
 search-less c =
-    let l = lists-3 c.before.before.before.before.before.before.before in
-    omega (arith, step-there (closing-of (word_of l)), entries-size (here l))
+    omega (arith, step-there (closing-of c.before.before.before.before.before.before.before.before.before.before.before.before.before.before.before.before.before.before.before), entries-size c.before.before.before.before.before.before.before.before.before.before.before.before.before.before.before.before.before.before.before.before.before.before.before.before.before)
 
 search-again : tie.Need-search-preserved Inv-loop μ-loop Inv-search μ-search
 search-again c =
-    let applied = c.before.before.before.before in
-    let a = applied.before.before.before in
-    let l = lists-3 a in
-    let k = closing-of (word_of l) in
-    let advanced = a.before.before.before in
-    let done = advanced.before.before.before in
-    let s = here l in
     let keeps =
-    keeps-next (model s) (trace s) (start s).pre.2 (on s).past (on s).keeps advanced.advance.ensures in
+    keeps-next (model c.before.before.before.before.before.before.before.before.before.before.before.before.before.before.before.before.before.before.before.before.before.before.before.before.before) (trace c.before.before.before.before.before.before.before.before.before.before.before.before.before.before.before.before.before.before.before.before.before.before.before.before.before) c.requires.2 (on c.before.before.before.before.before.before.before.before.before.before.before.before.before.before.before.before.before.before.before.before.before.before.before.before.before).past (on c.before.before.before.before.before.before.before.before.before.before.before.before.before.before.before.before.before.before.before.before.before.before.before.before.before).keeps c.advance.ensures in
     let none_left =
-    looking_end _ done.before.loop.invariant
-    (rw (asks-length (P l) (N l) (made l))
-    (omega (arith, done.before.before.count.ensures, done.loop-test.false))) in
-    on-fired (model (here l)) (trace (here l)) (on (here l)) (closed k) refl (step-there k) (asked_is l none none_left)
-    (few-more k) (closure-shown (model s) (shape s) (closed k)) keeps advanced.advance.ensures.kept.as_long
-    (P-is l)
-    (rule-A _ _ (list-is (record_of l) 2 a.rule-list3.ensures) ∙ rule-is l (λ r. r.A)) (made-is l)
-    (persistent_in _ (here l).before.section.ensures)
-    applied.apply.ensures.0 applied.apply.ensures.1
+    looking_end _ c.loop-i.invariant
+    (rw (asks-length (P c.before.before.before.before.before.before.before.before.before.before.before.before.before.before.before) (N c.before.before.before.before.before.before.before.before.before.before.before.before.before.before.before) (made c.before.before.before.before.before.before.before.before.before.before.before.before.before.before.before))
+    (omega (arith, c.count-count.ensures, c.loop-i-test.false))) in
+    on-fired (model c.before.before.before.before.before.before.before.before.before.before.before.before.before.before.before.before.before.before.before.before.before.before.before.before.before) (trace c.before.before.before.before.before.before.before.before.before.before.before.before.before.before.before.before.before.before.before.before.before.before.before.before.before) (on c.before.before.before.before.before.before.before.before.before.before.before.before.before.before.before.before.before.before.before.before.before.before.before.before.before) (closed c.before.before.before.before.before.before.before.before.before.before.before.before.before.before.before.before.before.before.before.before.before.before) refl (step-there c.before.before.before.before.before.before.before.before.before.before.before.before.before.before.before.before.before.before.before.before.before.before) (asked_is c.before.before.before.before.before.before.before.before.before.before.before.before.before.before.before none none_left)
+    (few-more c.before.before.before.before.before.before.before.before.before.before.before.before.before.before.before.before.before.before.before.before.before.before) (closure-shown (model c.before.before.before.before.before.before.before.before.before.before.before.before.before.before.before.before.before.before.before.before.before.before.before.before.before) (shape c.before.before.before.before.before.before.before.before.before.before.before.before.before.before.before.before.before.before.before.before.before.before.before.before.before) (closed c.before.before.before.before.before.before.before.before.before.before.before.before.before.before.before.before.before.before.before.before.before.before)) keeps c.advance.ensures.kept.as_long
+    (P-is c.before.before.before.before.before.before.before.before.before.before.before.before.before.before.before)
+    (rule-A _ _ (list-is c.before.before.before.before.before.before.before.before.before.before.before.before.before.before.before.before.before.before 2 c.rule_list-a.ensures) ∙ rule-is c.before.before.before.before.before.before.before.before.before.before.before.before.before.before.before (λ r. r.A)) (made-is c.before.before.before.before.before.before.before.before.before.before.before.before.before.before.before)
+    (persistent_in _ c.section-persistent.ensures)
+    c.apply.ensures.0 c.apply.ensures.1
 
-same_length : tie.Need-same-length Inv-loop μ-loop Inv-search μ-search
+same_length : tie.Need-shape_of-state-then-steps-fired Inv-loop μ-loop Inv-search μ-search
 same_length c = (on c.before).kept.as_long
 
-same-length-2 : tie.Need-same-length-2 Inv-loop μ-loop Inv-search μ-search
+same-length-2 : tie.Need-shape_of-table-then-steps-fired Inv-loop μ-loop Inv-search μ-search
 same-length-2 c = (on c.before).as_long
 
-same-length-3 : tie.Need-same-length-3 Inv-loop μ-loop Inv-search μ-search
+same-length-3 : tie.Need-shape_of-names-then-steps-fired Inv-loop μ-loop Inv-search μ-search
 same-length-3 c = (on c.before).names-kept.as_long
 
-same-length-4 : tie.Need-same-length-4 Inv-loop μ-loop Inv-search μ-search
+same-length-4 : tie.Need-shape_of-kept-then-steps-fired Inv-loop μ-loop Inv-search μ-search
 same-length-4 c = (on c.before).bits-long
 
-returns : tie.Need-returns Inv-loop μ-loop Inv-search μ-search
+returns : tie.Need-returns-then-steps-fired Inv-loop μ-loop Inv-search μ-search
 unfolding unmet_in
-returns c = on-end _ _ (on c.before) (omega (arith, c.if1.true, entries-size c.before)) refl refl refl
+returns c = on-end _ _ (on c.before) (omega (arith, c.if-steps-fired.true, entries-size c.before)) refl refl refl
 
-same-length-5 : tie.Need-same-length-5 Inv-loop μ-loop Inv-search μ-search
-same-length-5 c = (on (here (lists c.before.before.before.before.before))).kept.as_long
+same-length-5 : tie.Need-shape_of-state-then-not-meets Inv-loop μ-loop Inv-search μ-search
+same-length-5 c = (on (here c.before.before.before.before.before.before)).kept.as_long
 
-same-length-6 : tie.Need-same-length-6 Inv-loop μ-loop Inv-search μ-search
+same-length-6 : tie.Need-shape_of-table-then-not-meets Inv-loop μ-loop Inv-search μ-search
 same-length-6 c =
-    let l = lists c.before.before.before.before.before in
-    (closed (closing-of (word_of l))).filled.as_long ∙ (on (here l)).as_long
+    (closed (closing-of c.before.before.before.before.before.before.before.before.before.before)).filled.as_long ∙ (on c.before.before.before.before.before.before.before.before.before.before.before.before.before.before.before.before).as_long
 
-same-length-7 : tie.Need-same-length-7 Inv-loop μ-loop Inv-search μ-search
-same-length-7 c = (on (here (lists c.before.before.before.before.before))).names-kept.as_long
+same-length-7 : tie.Need-shape_of-names-then-not-meets Inv-loop μ-loop Inv-search μ-search
+same-length-7 c = (on (here c.before.before.before.before.before.before)).names-kept.as_long
 
-same-length-8 : tie.Need-same-length-8 Inv-loop μ-loop Inv-search μ-search
-same-length-8 c = (on (here (lists c.before.before.before.before.before))).bits-long
+same-length-8 : tie.Need-shape_of-kept-then-not-meets Inv-loop μ-loop Inv-search μ-search
+same-length-8 c = (on (here c.before.before.before.before.before.before)).bits-long
 
-returns-2 : tie.Need-returns-2 Inv-loop μ-loop Inv-search μ-search
+returns-2 : tie.Need-returns-then-not-meets Inv-loop μ-loop Inv-search μ-search
 unfolding unmet_in
 returns-2 c =
-    let at = c.before.before.before.before.before in
-    let l = lists at in
-    let k = closing-of (word_of l) in
-    let nth = c.before.before.before.before.nth.ensures in
+    let nth = c.nth-c.ensures in
     let hit =
-    looking_hit _ at.before.loop.invariant _ (below at).1
-    (rw nth at (sym c.before.meets.ensures ∙ not-true _ c.if2.true)) in
-    on-stop _ _ (on (here l)) (closed k) (step-there k) (asked_is l _ (hit ∙ ap some (sym nth))) refl refl refl
-    (few-more k)
+    looking_hit _ c.loop-i.invariant _ (below c.before.before.before).1
+    (rw nth at (sym c.meets.ensures ∙ c.if-not-meets.true)) in
+    on-stop _ _ (on c.before.before.before.before.before.before.before.before.before.before.before.before.before.before.before.before) (closed c.before.before.before.before.before.before.before.before.before.before.before.before.before) (step-there c.before.before.before.before.before.before.before.before.before.before.before.before.before) (asked_is c.before.before.before.before.before.before _ (hit ∙ ap some (sym nth))) refl refl refl
+    (few-more c.before.before.before.before.before.before.before.before.before.before.before.before.before)
 
-pub search-spec : {M : Type 1} → statement M
-search-spec =
+pub search_spec : {M : Type 1} → statement M
+search_spec =
     tie.close
     (tie.spec
     Inv-loop

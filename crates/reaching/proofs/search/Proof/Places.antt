@@ -27,12 +27,12 @@ use Rattle.stepping.proofs.Looking.{asks, asks-length, Looking}
 use Rattle.reaching.proofs.Stepwise.{closure-shown, rounds-few, asked, On}
 use Rattle.reaching.proofs.search.Tie as tie
 
-abbrev pub Inv-loop : tie.invariant-loop
+abbrev pub Inv-loop : tie.invariant-loop-i
 Inv-loop model trace codes state table names kept index ends starts entries steps persistent fired rounds rule p
     n made count i₀ i =
     Looking (asks p n made) (numbered table) (names_in names) i
 
-abbrev pub μ-loop : tie.decreases-loop
+abbrev pub μ-loop : tie.decreases-loop-i
 μ-loop model trace codes state table names kept index ends starts entries steps persistent fired rounds rule p
     n made count i₀ i =
     count - i
@@ -64,7 +64,7 @@ module _ (s : tie.At-search Inv-loop μ-loop Inv-search μ-search) where
   ks = (trace_of trace).steps
 
   pub fine : pair_fault model trace ≡ none
-  fine = start.pre.0.fine
+  fine = start.requires.0.fine
 
   pub shape : shape_fault model ≡ none
   shape = pair_shape model trace fine
@@ -75,37 +75,37 @@ module _ (s : tie.At-search Inv-loop μ-loop Inv-search μ-search) where
   abbrev pub on : On model trace
       (record { state = start.args.state.now; table = start.args.table.now; names = start.args.names.now })
       lent start.args.kept.now s.search.kept s.search.fired s.search.rounds
-  on = s.search.inv
+  on = s.search.invariant
 
   pub few-steps : length ks ≤ 1024
   few-steps = pair_few model trace fine
 
-  pub entries-size : length s.before.before.entries.result.now ≡ 2 + 2 * length ks
-  entries-size = ap length s.before.before.entries.ensures ∙ pair_entries model trace fine
+  pub entries-size : length s.entries-entries.result.now ≡ 2 + 2 * length ks
+  entries-size = ap length s.entries-entries.ensures ∙ pair_entries model trace fine
 
   pub long : 4096 ≤ length s.search.table
-  long = omega (arith, on.as_long, start.pre.0.entries)
+  long = omega (arith, on.as_long, start.requires.0.entries)
 
   pub room : 512 ≤ length s.search.state
-  room = omega (arith, on.kept.as_long, start.pre.0.room)
+  room = omega (arith, on.kept.as_long, start.requires.0.room)
 
   pub names-room : 128 ≤ length s.search.names
-  names-room = omega (arith, on.names-kept.as_long, start.pre.0.names)
+  names-room = omega (arith, on.names-kept.as_long, start.requires.0.names)
 
 -- ---- the state is closed
 
-module _ (c : tie.After-close-judged Inv-loop μ-loop Inv-search μ-search) where
+module _ (c : tie.After-close_judged-rounds Inv-loop μ-loop Inv-search μ-search) where
   abbrev pub at-closing : tie.At-search Inv-loop μ-loop Inv-search μ-search
-  at-closing = c.before.before.before.before
+  at-closing = c.before.before.before
 
   abbrev pub table_of : List ℕ
-  table_of = c.close-judged.new.1.1.0
+  table_of = c.close_judged-rounds.new.table
 
   pub closed : ClosesUnder (model_of_lem (model at-closing)).clauses at-closing.search.state
-      at-closing.search.table table_of c.close-judged.result
-  closed = c.close-judged.ensures
+      at-closing.search.table table_of c.close_judged-rounds.result
+  closed = c.close_judged-rounds.ensures
 
-  pub few-more : c.close-judged.result ≤ 4096
+  pub few-more : c.close_judged-rounds.result ≤ 4096
   few-more =
       omega (
         arith,
@@ -114,21 +114,21 @@ module _ (c : tie.After-close-judged Inv-loop μ-loop Inv-search μ-search) wher
       )
 
   pub step-there : at-closing.search.fired < length (ks at-closing)
-  step-there = omega (arith, c.before.before.before.if1.false, entries-size at-closing)
+  step-there = omega (arith, c.if-steps-fired.false, entries-size at-closing)
 
 -- ---- the step's rule
 
-module _ (c : tie.After-word-at Inv-loop μ-loop Inv-search μ-search) where
-  abbrev pub closing-of : tie.After-close-judged Inv-loop μ-loop Inv-search μ-search
+module _ (c : tie.After-word_at Inv-loop μ-loop Inv-search μ-search) where
+  abbrev pub closing-of : tie.After-close_judged-rounds Inv-loop μ-loop Inv-search μ-search
   closing-of = c.before.before.before
 
   abbrev pub at-rule : tie.At-search Inv-loop μ-loop Inv-search μ-search
-  at-rule = at-closing closing-of
+  at-rule = c.before.before.before.before.before.before
 
   pub number_is : c.word_at.result ≡ get_or (ks at-rule) at-rule.search.fired 0
   number_is =
       c.word_at.ensures
-      ∙ ap (λ (l : List ℕ). word (drop (2 + 2 * at-rule.search.fired) l)) at-rule.before.before.entries.ensures
+      ∙ ap (λ (l : List ℕ). word (drop (2 + 2 * at-rule.search.fired) l)) at-rule.entries-entries.ensures
       ∙ sym (pair_step (model at-rule) (trace at-rule) (fine at-rule) at-rule.search.fired (step-there closing-of))
 
   pub known-rule : c.word_at.result < length (model_of_lem (model at-rule)).rules
@@ -136,73 +136,72 @@ module _ (c : tie.After-word-at Inv-loop μ-loop Inv-search μ-search) where
       subst (λ k. k < length (model_of_lem (model at-rule)).rules) (sym number_is)
       (pair_step-known (model at-rule) (trace at-rule) (fine at-rule) at-rule.search.fired (step-there closing-of))
 
-module _ (c : tie.After-record Inv-loop μ-loop Inv-search μ-search) where
+module _ (c : tie.After-record-rule Inv-loop μ-loop Inv-search μ-search) where
   -- what the model's rules are
   abbrev pub kind-of : Kind
-  kind-of = rule_kind_lem (get_or (model (at-rule c.before)) 0 0)
+  kind-of = rule_kind_lem (get_or (model c.before.before.before.before.before.before.before) 0 0)
 
-  pub cut_of : Cut kind-of c.record.result.now
-  cut_of = rw c.record.ensures (rule-record _ (shape (at-rule c.before)) (known-rule c.before))
+  pub cut_of : Cut kind-of c.record-rule.result.now
+  cut_of = rw c.record-rule.ensures (rule-record _ (shape c.before.before.before.before.before.before.before) (known-rule c.before))
 
   -- a list of the rule's record, as a list of the model's rule
-  pub list-is : (j : ℕ) {bytes : List ℕ} → ListBytes kind-of c.record.result.now j bytes
+  pub list-is : (j : ℕ) {bytes : List ℕ} → ListBytes kind-of c.record-rule.result.now j bytes
       → ListBytes kind-of
-      (get_or (records (section_of (model (at-rule c.before)) Rules)) c.before.word_at.result []) j bytes
-  list-is j {bytes} l = subst (λ (r : List ℕ). ListBytes kind-of r j bytes) c.record.ensures l
+      (get_or (records (section_of (model c.before.before.before.before.before.before.before) Rules)) c.word_at.result []) j bytes
+  list-is j {bytes} l = subst (λ (r : List ℕ). ListBytes kind-of r j bytes) c.record-rule.ensures l
 
-  pub known-list : (j : ℕ) {bytes : List ℕ} → j < 3 → ListBytes kind-of c.record.result.now j bytes → Known bytes
+  pub known-list : (j : ℕ) {bytes : List ℕ} → j < 3 → ListBytes kind-of c.record-rule.result.now j bytes → Known bytes
   known-list j {bytes} few l =
-      rule-known _ (shape (at-rule c.before)) (known-rule c.before) j few bytes (list-is j l)
+      rule-known _ (shape c.before.before.before.before.before.before.before) (known-rule c.before) j few bytes (list-is j l)
 
-module _ (c : tie.After-made Inv-loop μ-loop Inv-search μ-search) where
-  abbrev pub record_of : tie.After-record Inv-loop μ-loop Inv-search μ-search
+module _ (c : tie.After-made-made Inv-loop μ-loop Inv-search μ-search) where
+  abbrev pub record_of : tie.After-record-rule Inv-loop μ-loop Inv-search μ-search
   record_of = c.before.before.before
 
   abbrev pub P : List ℕ
-  P = c.before.before.rule-list.result.now
+  P = c.rule_list-p.result.now
 
   abbrev pub N : List ℕ
-  N = c.before.rule-list2.result.now
+  N = c.rule_list-n.result.now
 
   abbrev pub made : List ℕ
-  made = c.made.result.now
+  made = c.made-made.result.now
 
   pub known-P : Known P
-  known-P = known-list record_of 0 (lit< tt) c.before.before.rule-list.ensures
+  known-P = known-list record_of 0 (lit< tt) c.rule_list-p.ensures
 
   pub known-N : Known N
-  known-N = known-list record_of 1 (lit< tt) c.before.rule-list2.ensures
+  known-N = known-list record_of 1 (lit< tt) c.rule_list-n.ensures
 
   pub table-long : 4096 ≤ length (table_of (closing-of record_of.before))
   table-long =
-      let k = closing-of record_of.before in
-      omega (arith, (closed k).filled.as_long, long (at-closing k))
+      omega (arith, (closed c.before.before.before.before.before.before.before).filled.as_long, long c.before.before.before.before.before.before.before.before.before.before)
 
-module _ (c : tie.In-loop Inv-loop μ-loop Inv-search μ-search) where
-  abbrev pub lists : tie.After-made Inv-loop μ-loop Inv-search μ-search
+module _ (c : tie.In-loop-i Inv-loop μ-loop Inv-search μ-search) where
+  abbrev pub lists : tie.After-made-made Inv-loop μ-loop Inv-search μ-search
   lists = c.before.before.before
 
-  pub below : (c.before.loop.i < length (P lists) / 2 + length (N lists) / 2 + length (made lists) / 2)
-      × (c.before.loop.i < length (asks (P lists) (N lists) (made lists)))
+  pub below : (c.loop-i.i < length (P lists) / 2 + length (N lists) / 2 + length (made lists) / 2)
+      × (c.loop-i.i < length (asks (P lists) (N lists) (made lists)))
   below =
-      let there : c.before.loop.i < length (P lists) / 2 + length (N lists) / 2 + length (made lists) / 2 =
-      omega (arith, c.before.before.count.ensures, c.loop-test.true) in
+      let there : c.loop-i.i < length (P lists) / 2 + length (N lists) / 2 + length (made lists) / 2 =
+      omega (arith, c.count-count.ensures, c.loop-i-test.true) in
       (there, rw (asks-length (P lists) (N lists) (made lists)) there)
 
-module _ (c : tie.After-rule-list3 Inv-loop μ-loop Inv-search μ-search) where
-  abbrev pub lists-3 : tie.After-made Inv-loop μ-loop Inv-search μ-search
-  lists-3 = c.before.before.before.before.before.before.before.before.before
+module _ (c : tie.After-rule_list-a Inv-loop μ-loop Inv-search μ-search) where
+  abbrev pub lists-3 : tie.After-made-made Inv-loop μ-loop Inv-search μ-search
+  lists-3 = c.before.before.before.before.before.before.before.before
 
-  pub known-A : Known c.rule-list3.result.now
-  known-A = known-list (record_of lists-3) 2 (lit< tt) c.rule-list3.ensures
+  pub known-A : Known c.rule_list-a.result.now
+  known-A = known-list (record_of lists-3) 2 (lit< tt) c.rule_list-a.ensures
 
 -- the conditions at hand are those of the step's rule, in the closure that the table shows and the names in use
-module _ (c : tie.After-made Inv-loop μ-loop Inv-search μ-search) where
-  abbrev pub word_of : tie.After-word-at Inv-loop μ-loop Inv-search μ-search
-  word_of = (record_of c).before
+module _ (c : tie.After-made-made Inv-loop μ-loop Inv-search μ-search) where
+  abbrev pub word_of : tie.After-word_at Inv-loop μ-loop Inv-search μ-search
+  word_of = c.before.before.before.before
 
   abbrev pub here : tie.At-search Inv-loop μ-loop Inv-search μ-search
-  here = at-rule word_of
+  here = c.before.before.before.before.before.before.before.before.before.before
 
   -- a list of the rule that the number at hand names is one of the step's rule
   pub rule-is : (which : Rule → List ℕ)
@@ -211,15 +210,15 @@ module _ (c : tie.After-made Inv-loop μ-loop Inv-search μ-search) where
   rule-is which = ap (λ k. which (rule_of (model_of_lem (model here)) k)) (number_is word_of)
 
   pub P-is : words (P c) ≡ (rule_of (model_of_lem (model here)) (get_or (ks here) here.search.fired 0)).P
-  P-is = rule-P _ _ (list-is (record_of c) 0 c.before.before.rule-list.ensures) ∙ rule-is (λ r. r.P)
+  P-is = rule-P _ _ (list-is c.before.before.before 0 c.rule_list-p.ensures) ∙ rule-is (λ r. r.P)
 
   pub N-is : words (N c) ≡ (rule_of (model_of_lem (model here)) (get_or (ks here) here.search.fired 0)).N
-  N-is = rule-N _ _ (list-is (record_of c) 1 c.before.rule-list2.ensures) ∙ rule-is (λ r. r.N)
+  N-is = rule-N _ _ (list-is c.before.before.before 1 c.rule_list-n.ensures) ∙ rule-is (λ r. r.N)
 
   pub made-is : words (made c) ≡ (rule_of (model_of_lem (model here)) (get_or (ks here) here.search.fired 0)).names
   made-is =
-      c.made.ensures.0
-      ∙ ap (λ (r : List ℕ). (rule_in (get_or (model here) 0 0) r).names) (record_of c).record.ensures
+      c.made-made.ensures.0
+      ∙ ap (λ (r : List ℕ). (rule_in (get_or (model here) 0 0) r).names) c.record-rule.ensures
       ∙ ap (λ (r : Rule). r.names) (sym (rule_in_lem (model here) word_of.word_at.result))
       ∙ rule-is (λ r. r.names)
 

@@ -189,11 +189,9 @@ module _ (m t : List ℕ) where
 first-known : {X used : Facts} {P N names : List ℕ} {c : Condition} → FirstUnmet X used P N names c
     → ((f : ℕ) → f ∈ P → f < 4096) → ((f : ℕ) → f ∈ N → f < 4096) → KnownIn c
 unfolding KnownIn
-first-known u p n = elim u [
-  | absent met rest e _ _ ↦ p _ (rw e (Memᴰ.append_right met (Memᴰ.head refl)))
-  | present _ met rest e _ _ ↦ n _ (rw e (Memᴰ.append_right met (Memᴰ.head refl)))
-  | in_use_lem _ _ _ _ _ _ ↦ tt
-]
+first-known (absent met rest e _ _) p n = p _ (rw e (Memᴰ.append_right met (Memᴰ.head refl)))
+first-known (present _ met rest e _ _) p n = n _ (rw e (Memᴰ.append_right met (Memᴰ.head refl)))
+first-known (in_use_lem _ _ _ _ _ _) p n = tt
 
 -- the ending has this condition
 abbrev EndsWith : Ending → Condition → Type 0

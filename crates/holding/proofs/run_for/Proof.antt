@@ -96,7 +96,7 @@ returns : tie.Need-returns
 returns c =
     let stop = c.before.before in
     let reached = reached-at stop.before.before in
-    asks-blocked _ _ reached.reach.ensures _ _ stop.stop.given.1 c.number_of_lem.ensures
+    asks-blocked _ _ reached.reach.ensures _ _ stop.stop.given.1 c.number_of.ensures
 
 same-length-4 : tie.Need-same-length-4
 same-length-4 c = search rules

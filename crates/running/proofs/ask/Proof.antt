@@ -17,28 +17,28 @@ use Rattle.running.proofs.ask.Statement.{statement}
 use Rattle.running.proofs.ask.Tie as tie
 
 -- there are no codes
-module _ (c : tie.Then1) where
+module _ (c : tie.Then-codes-eq0) where
   abbrev without : tie.Start
   without = c.before.before.before.before.before.before.before
 
   none-there : length without.args.codes.now ≤ 0
-  none-there = omega (arith, c.if1.true)
+  none-there = omega (arith, c.if-codes-eq0.true)
 
 -- there are some
-module _ (c : tie.Else1) where
+module _ (c : tie.Else-codes-eq0) where
   abbrev with-codes : tie.Start
   with-codes = c.before.before.before.before.before.before.before
 
   some-there : 0 < length with-codes.args.codes.now
-  some-there = omega (arith, c.if1.false)
+  some-there = omega (arith, c.if-codes-eq0.false)
 
 -- what the formula's value says, whatever history is kept
-module _ (c : tie.After-slice-known2) where
+module _ (c : tie.After-slice_known-2-1) where
   abbrev advanced : tie.After-advance
   advanced = c.before.before
 
   abbrev asking : tie.Start
-  asking = with-codes advanced.before.before
+  asking = c.before.before.before.before.before.before.before.before.before.before.before
 
   asked_is : {answer : Bool} → advanced.advance.result ≡ answer
       → Asked (aimed asking.args.model.now asking.args.trace.now) (numbered asking.args.table.now)
@@ -46,37 +46,35 @@ module _ (c : tie.After-slice-known2) where
   asked_is told h k =
       ap (λ (b : Bool). cond b upheld attack) (sym told)
       ∙ sym
-      (asked-formula _ _ asking.pre.2 (some-there advanced.before.before) _ h k advanced.advance.ensures)
+      (asked-formula _ _ asking.requires.2 (some-there advanced.before.before) _ h k advanced.advance.ensures)
 
-ask-state-requires : tie.Need-ask-state-requires
+ask-state-requires : tie.Need-ask_state-requires
 ask-state-requires c κs =
-    let s = without c in
-    (s.pre.0, s.pre.1, codes-state s.pre.2 (none-there c))
+    (c.requires.0, c.requires.1, codes-state c.requires.2 (none-there c))
 
-returns : tie.Need-returns
+returns : tie.Need-returns-then-codes-eq0
 returns c =
-    let s = without c.before in
-    λ h k. c.ask-state.ensures ∙ asked-alone _ _ s.pre.2 (none-there c.before) _ _ [] h
+    λ h k. c.ask_state.ensures ∙ asked-alone _ _ c.requires.2 (none-there c.before) _ _ [] h
 
 advance-requires : tie.Need-advance-requires
 advance-requires c κs = search rules
 
-same_length : tie.Need-same-length
+same_length : tie.Need-shape_of-kept-then-advance
 same_length c = search rules
 
-returns-2 : tie.Need-returns-2
+returns-2 : tie.Need-returns-then-advance
 unfolding ending_of
-returns-2 c = asked_is c.before c.if2.true
+returns-2 c = asked_is c.before c.if-advance.true
 
-same-length-2 : tie.Need-same-length-2
+same-length-2 : tie.Need-shape_of-kept-else-advance
 same-length-2 c = search rules
 
-returns-3 : tie.Need-returns-3
+returns-3 : tie.Need-returns-else-advance
 unfolding ending_of
-returns-3 c = asked_is c.before c.if2.false
+returns-3 c = asked_is c.before c.if-advance.false
 
-pub ask-spec : {M : Type 1} → statement M
-ask-spec =
+pub ask_spec : {M : Type 1} → statement M
+ask_spec =
     tie.close
     (tie.spec
     ask-state-requires

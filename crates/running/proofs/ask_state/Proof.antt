@@ -27,100 +27,94 @@ use borrow.Author.Rules.{rules}
 use Rattle.running.proofs.ask_state.Statement.{statement}
 use Rattle.running.proofs.ask_state.Tie as tie
 
-module _ (c : tie.After-goal-of) where
+module _ (c : tie.After-goal_of) where
   abbrev start : tie.Start
   start = c.before.before.before.before.before
 
   abbrev M : Model
   M = model_of_lem start.args.model.now
 
-  known-goal : c.goal_of_lem.result < length M.goals
-  known-goal = subst (λ g. g < length M.goals) (sym c.goal_of_lem.ensures) start.pre.2
+  known-goal : c.goal_of.result < length M.goals
+  known-goal = subst (λ g. g < length M.goals) (sym c.goal_of.ensures) start.requires.2
 
   -- the record that the number at hand names, as an attack state
   abbrev named : Goal
-  named = goal_in (get_or (records (section_of start.args.model.now Goals)) c.goal_of_lem.result [])
+  named = goal_in (get_or (records (section_of start.args.model.now Goals)) c.goal_of.result [])
 
   aim-is : aim_of M (trace_of start.args.trace.now).goal ≡ state named
-  aim-is = ap (aim_of M) (sym c.goal_of_lem.ensures) ∙ state_in_lem _ _ known-goal
+  aim-is = ap (aim_of M) (sym c.goal_of.ensures) ∙ state_in_lem _ _ known-goal
 
-module _ (c : tie.After-record) where
-  cut_of : Cut kind.Goal c.record.result.now
-  cut_of = rw c.record.ensures (goal-record _ (pair_shape _ _ (start c.before).pre.0) (known-goal c.before))
+module _ (c : tie.After-record-goal) where
+  cut_of : Cut kind.Goal c.record-goal.result.now
+  cut_of = rw c.record-goal.ensures (goal-record _ (pair_shape _ _ c.requires.0) (known-goal c.before))
 
   -- a list of the record, as a list of the model's attack state
-  list-is : (j : ℕ) {bytes : List ℕ} → ListBytes kind.Goal c.record.result.now j bytes
+  list-is : (j : ℕ) {bytes : List ℕ} → ListBytes kind.Goal c.record-goal.result.now j bytes
       → ListBytes kind.Goal
-      (get_or (records (section_of (start c.before).args.model.now Goals)) c.before.goal_of_lem.result []) j bytes
-  list-is j {bytes} l = subst (λ (r : List ℕ). ListBytes kind.Goal r j bytes) c.record.ensures l
+      (get_or (records (section_of c.args.model.now Goals)) c.before.goal_of.result []) j bytes
+  list-is j {bytes} l = subst (λ (r : List ℕ). ListBytes kind.Goal r j bytes) c.record-goal.ensures l
 
-  known-list : (j : ℕ) {bytes : List ℕ} → j < 3 → ListBytes kind.Goal c.record.result.now j bytes → Known bytes
+  known-list : (j : ℕ) {bytes : List ℕ} → j < 3 → ListBytes kind.Goal c.record-goal.result.now j bytes → Known bytes
   known-list j {bytes} few l =
-      goal-known _ (pair_shape _ _ (start c.before).pre.0) (known-goal c.before) j few bytes (list-is j l)
+      goal-known _ (pair_shape _ _ c.requires.0) (known-goal c.before) j few bytes (list-is j l)
 
 -- the first unmet condition of the attack state, as the table shows
-unmet-is : (c : tie.After-first-unmet)
-    → let w = c.before.before.before.before.before in
-    unmet_in c.first-unmet.result
-    ≡ unmet (numbered (start w).args.table.now) (names_in (start w).args.names.now)
-    (conditions (named w).P (named w).N [])
+unmet-is : (c : tie.After-first_unmet)
+    →    unmet_in c.first_unmet.result
+    ≡ unmet (numbered c.args.table.now) (names_in c.args.names.now)
+    (conditions (named c.before.before.before.before).P (named c.before.before.before.before).N [])
 unfolding words
 unmet-is c =
-    let l = c.before.before in
-    let r = l.before.before in
-    let P-is = goal-P _ _ (list-is r 0 l.before.list_of.ensures) in
-    let N-is = goal-N _ _ (list-is r 1 l.list-of2.ensures) in
-    rw (P-is, N-is) at c.first-unmet.ensures
+    let P-is = goal-P _ _ (list-is c.before.before.before 0 c.list_of-p.ensures) in
+    let N-is = goal-N _ _ (list-is c.before.before.before 1 c.list_of-n.ensures) in
+    rw (P-is, N-is) at c.first_unmet.ensures
 
-goal-of-requires : tie.Need-goal-of-requires
+goal-of-requires : tie.Need-goal_of-requires
 goal-of-requires c κs =
-    let s = c.before.before.before.before in
-    (pair_fits _ _ s.requires.0, omega (arith, pair_entries _ _ s.requires.0))
+    (pair_fits _ _ c.requires.0, omega (arith, pair_entries _ _ c.requires.0))
 
-record-requires : tie.Need-record-requires
-record-requires c κs = (pair_shape _ _ (start c).requires.0, state-there _ (known-goal c))
+record-requires : tie.Need-record-goal-requires
+record-requires c κs = (pair_shape _ _ c.requires.0, state-there _ (known-goal c))
 
-list-of-requires : tie.Need-list-of-requires
+list-of-requires : tie.Need-list_of-p-requires
 unfolding list_count_lem
 list-of-requires c κs = (cut_of c, lit< tt)
 
-list-of-requires-2 : tie.Need-list-of-requires-2
+list-of-requires-2 : tie.Need-list_of-n-requires
 unfolding list_count_lem
 list-of-requires-2 c κs = (cut_of c.before, lit< tt)
 
-slice-aggregate-first-unmet : tie.Need-slice-aggregate-first-unmet
+slice-aggregate-first-unmet : tie.Need-slice_bounds-first_unmet-end
 slice-aggregate-first-unmet c = search rules
 
-first-unmet-requires : tie.Need-first-unmet-requires
+first-unmet-requires : tie.Need-first_unmet-requires
 first-unmet-requires c κs =
-    let l = c.before in (
-      known-list l.before.before 0 (lit< tt) l.before.list_of.ensures,
-      known-list l.before.before 1 (lit< tt) l.list-of2.ensures,
-      (start l.before.before.before).pre.1,
+ (
+      known-list c.before.before 0 (lit< tt) c.list_of-p.ensures,
+      known-list c.before.before 1 (lit< tt) c.list_of-n.ensures,
+      c.requires.1,
     )
 
-enum_told : tie.Need-enum-told
+enum_told : tie.Need-enum_told-1
 enum_told c = search rules
 
-enum-known-c : tie.Need-enum-known-c
+enum-known-c : tie.Need-enum_known-c
 enum-known-c c = search rules
 
-returns : tie.Need-returns
+returns : tie.Need-returns-in-Nowhere
 unfolding ending_of unmet_in
 returns c =
-    let f = c.before.before in
-    asked-met _ (aim-is f.before.before.before.before.before) _ _
-    (sym (unmet-is f) ∙ ap unmet_in c.enum_told.given.1)
+    asked-met _ (aim-is c.before.before.before.before.before) _ _
+    (sym (unmet-is c.before) ∙ ap unmet_in c.in-Nowhere.is)
 
-returns-2 : tie.Need-returns-2
+returns-2 : tie.Need-returns-in-At
 unfolding ending_of unmet_in
 returns-2 c =
-    let f = c.before.before.before in
-    asked-unmet _ (aim-is f.before.before.before.before.before) _ _
-    (sym (unmet-is f) ∙ ap unmet_in c.before.c.given.1)
+    asked-unmet _ (aim-is c.before.before.before.before.before) _ _
+    (sym (unmet-is c.before) ∙ ap unmet_in c.in-At.is)
 
-pub ask-state-spec : {M : Type 1} → statement M
-ask-state-spec =
+pub ask_state_spec : {M : Type 1} → statement M
+ask_state_spec =
     tie.close
     (tie.spec
     goal-of-requires

@@ -6,48 +6,44 @@ use borrow.Author.Rules.{rules}
 use Rattle.running.proofs.conclude.Statement.{statement}
 use Rattle.running.proofs.conclude.Tie as tie
 
-abbrev start : tie.After-finish → tie.Start
+abbrev start : tie.After-finish-ended → tie.Start
 start c = c.before.before.before.before.before.before.before.before.before.before.before.before.before
 
-finish-requires : tie.Need-finish-requires
+finish-requires : tie.Need-finish-ended-requires
 finish-requires c κs =
-    let s = c.before.before.before.before.before.before.before.before.before.before.before.before in
-    s.requires
+    c.requires
 
 count-requires : tie.Need-count-requires
 count-requires c κs = search rules
 
-verdict-of-requires : tie.Need-verdict-of-requires
+verdict-of-requires : tie.Need-verdict_of-requires
 verdict-of-requires c κs =
-    let f = c.before.before.before.before.before.before in
-    let s = start f in
-    let ended = f.finish.ensures in
+    let ended = c.finish-ended.ensures in
     let table = ended.left.rounds in (
-      s.pre.0.fine,
+      c.requires.0.fine,
       record {
         within = ended.within;
         ending = ended.ending;
         step = ended.step;
         rounds = ended.rounds;
-        held-is = held-is _ _ (pair_shape _ _ s.pre.0.fine) _ ended.left.facts c.before.count.ensures;
+        held-is = held-is _ _ (pair_shape _ _ c.requires.0.fine) _ ended.left.facts c.count.ensures;
       },
       record {
-        long = omega (arith, table.as_long, s.pre.0.entries);
+        long = omega (arith, table.as_long, c.requires.0.entries);
         entries = table.entries;
       },
     )
 
-same_length : tie.Need-same-length
+same_length : tie.Need-shape_of-table
 same_length c = search rules
 
-same-length-2 : tie.Need-same-length-2
+same-length-2 : tie.Need-shape_of-kept
 same-length-2 c = search rules
 
 returns : tie.Need-returns
 returns c =
-    let f = c.before.before.before.before.before.before.before in
-    (c.verdict-of.ensures, f.finish.ensures.left)
+    (c.verdict_of.ensures, c.finish-ended.ensures.left)
 
-pub conclude-spec : {M : Type 1} → statement M
-conclude-spec =
+pub conclude_spec : {M : Type 1} → statement M
+conclude_spec =
     tie.close (tie.spec finish-requires count-requires verdict-of-requires same_length same-length-2 returns)

@@ -9,65 +9,57 @@ use borrow.Author.Rules.{rules}
 use Rattle.running.proofs.finish.Statement.{statement}
 use Rattle.running.proofs.finish.Tie as tie
 
-abbrev start : tie.After-close-judged → tie.Start
-start c = c.before.before.before.before.before.before.before.before.before.before.before.before.before.before
+abbrev start : tie.After-close_judged-rounds → tie.Start
+start c = c.before.before.before.before.before.before.before.before.before.before.before.before.before
 
-abbrev closed_at : tie.After-struct-known → tie.After-close-judged
-closed_at c = c.before.before.before.before.before.before.before.before
+abbrev closed_at : tie.After-struct_known-1 → tie.After-close_judged-rounds
+closed_at c = c.before.before.before.before.before.before.before
 
-enum-known-stop : tie.Need-enum-known-stop
+enum-known-stop : tie.Need-enum_known-stop
 enum-known-stop c = search rules
 
-enum_told : tie.Need-enum-told
+enum_told : tie.Need-enum_told-1
 enum_told c = search rules
 
-close-judged-requires : tie.Need-close-judged-requires
+close-judged-requires : tie.Need-close_judged-rounds-requires
 close-judged-requires c κs =
-    let s = c.before.before.before.before.before.before.before.before.before.before.before.before.before in
-    (pair_shape _ _ s.requires.0.fine, s.requires.0.entries, s.requires.3)
+    (pair_shape _ _ c.requires.0.fine, c.requires.0.entries, c.requires.3)
 
 ask-requires : tie.Need-ask-requires
 ask-requires c κs =
-    let closed = c.before.before.before.before in
-    let s = start closed in (
-      s.pre.0.fine,
-      omega (arith, closed.close-judged.ensures.filled.as_long, s.pre.0.entries),
-      s.pre.2,
+ (
+      c.requires.0.fine,
+      omega (arith, c.close_judged-rounds.ensures.filled.as_long, c.requires.0.entries),
+      c.requires.2,
     )
 
-add-t24 : tie.Need-overflow-add-t24
+add-t24 : tie.Need-overflow_add-result
 add-t24 c =
-    let closed = closed_at c in
-    let s = start closed in
-    let m = s.args.model.now in
-    let t = s.args.trace.now in
+    let m = c.args.model.now in
+    let t = c.args.trace.now in
     omega (
       arith,
-      s.pre.1.bound,
-      s.pre.1.within,
-      pair_few m t s.pre.0.fine,
-      closed.close-judged.ensures.number,
-      rounds-few m (pair_shape m t s.pre.0.fine) (members s.args.state.now),
+      c.requires.1.bound,
+      c.requires.1.within,
+      pair_few m t c.requires.0.fine,
+      c.close_judged-rounds.ensures.number,
+      rounds-few m (pair_shape m t c.requires.0.fine) (members c.args.state.now),
     )
 
-returns : tie.Need-returns
+returns : tie.Need-returns-in-At
 returns c =
-    let s = c.before.before.before.before.before.before.before.before.before.before.before.before.before in
-    ends-blocked _ _ s.requires.1 _ c.before.stop.given.1
+    ends-blocked _ _ c.requires.1 _ c.in-At.is
 
-same_length : tie.Need-same-length
+same_length : tie.Need-shape_of-table
 same_length c = search rules
 
-same-length-2 : tie.Need-same-length-2
+same-length-2 : tie.Need-shape_of-kept
 same-length-2 c = search rules
 
-returns-2 : tie.Need-returns-2
+returns-2 : tie.Need-returns-in-Nowhere
 returns-2 c =
-    let closed = closed_at c in
-    let told = closed.before.before in
-    let s = start closed in
-    ends_asked _ _ s.pre.1 (pair_shape _ _ s.pre.0.fine) told.enum_told.given.1
-    closed.close-judged.ensures c.before.before.before.ask.ensures
+    ends_asked _ _ c.requires.1 (pair_shape _ _ c.requires.0.fine) c.in-Nowhere.is
+    c.close_judged-rounds.ensures c.ask.ensures
 
 pub finish_spec : {M : Type 1} → statement M
 finish_spec =

@@ -4,7 +4,7 @@ use Prim.Native.Nat.{ℕ}
 use mathlib.Core.Path.{◌≡◌, refl, ap, ◌∙◌}
 use mathlib.Core.Bool.{false}
 use mathlib.Core.List.Memᴰ
-use mathlib.Core.List.{List, ◌∷◌, map}
+use mathlib.Core.List.{[], List, ◌∷◌, map}
 use mathlib.Core.Option
 use Rattle.sets.specs.Sets.{listed, ◌∈◌}
 use Rattle.meaning.specs.Rounds.{round_number}
@@ -40,6 +40,7 @@ all_lines = refl
 
 -- Two functions with the same images on a list agree at each of its entries.
 same_at : {A B : Type 0} (f g : A → B) (xs : List A) → map f xs ≡ map g xs → (x : A) → x ∈ xs → f x ≡ g x
+same_at f g [] e x m = elim m [ ]
 same_at f g (y ∷ ys) e x (Memᴰ.head is) = rw is (cc)
 same_at f g (y ∷ ys) e x (Memᴰ.tail m) = same_at f g ys (cc) x m
 

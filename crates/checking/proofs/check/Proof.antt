@@ -15,92 +15,84 @@ use Rattle.checking.proofs.check.Tie as tie
 abbrev lent : tie.Start → Lent
 lent s = record { state = s.args.state.now; table = s.args.table.now; names = s.args.names.now }
 
-abbrev start : tie.After-no-space → tie.Start
-start c = c.before.before.before.before.before.before.before.before.before
+abbrev start : tie.After-no_space → tie.Start
+start c = c.before.before.before.before.before.before
 
 -- past the test there is room
-roomy : (c : tie.Else1) → no_space_lem (lent (start c.before)) ≡ false
-roomy c = sym c.before.no-space.ensures ∙ c.if1.false
+roomy : (c : tie.Else-no_space) → no_space_lem (lent c.before.before.before.before.before.before.before) ≡ false
+roomy c = sym c.no_space.ensures ∙ c.if-no_space.false
 
 -- the pair has no fault
-pair-is-fine : (c : tie.After-enum-told)
-    → let s = start c.before.before.before.before in
-    pair_fault s.args.model.now s.args.trace.now ≡ none
-pair-is-fine c = (paired-fine _ _ _ c.before.before.judge-pair.ensures c.enum_told.given.1).0
+pair-is-fine : (c : tie.In-Fine)
+    →    pair_fault c.args.model.now c.args.trace.now ≡ none
+pair-is-fine c = (paired-fine _ _ _ c.judge_pair.ensures c.in-Fine.is).0
 
-no-space-requires : tie.Need-no-space-requires
+no-space-requires : tie.Need-no_space-requires
 no-space-requires c κs = search rules
 
-refuse-room-requires : tie.Need-refuse-room-requires
+refuse-room-requires : tie.Need-refuse_room-requires
 refuse-room-requires c κs = search rules
 
-same_length : tie.Need-same-length
+same_length : tie.Need-shape_of-state-then-no_space
 same_length c = search rules
 
-same-length-2 : tie.Need-same-length-2
+same-length-2 : tie.Need-shape_of-table-then-no_space
 same-length-2 c = search rules
 
-same-length-3 : tie.Need-same-length-3
+same-length-3 : tie.Need-shape_of-names-then-no_space
 same-length-3 c = search rules
 
-returns : tie.Need-returns
+returns : tie.Need-returns-then-no_space
 returns c =
-    let tested = c.before.before in
-    checked_room _ _ (lent (start tested)) (sym tested.no-space.ensures ∙ c.before.if1.true)
-    c.refuse-room.ensures
+    checked_room _ _ (lent c.before.before.before.before.before.before.before.before) (sym c.no_space.ensures ∙ c.if-no_space.true)
+    c.refuse_room.ensures
 
-judge-pair-requires : tie.Need-judge-pair-requires
+judge-pair-requires : tie.Need-judge_pair-requires
 judge-pair-requires c κs = search rules
 
-enum-known-number : tie.Need-enum-known-number
+enum-known-number : tie.Need-enum_known-number
 enum-known-number c = search rules
 
 refuse-requires : tie.Need-refuse-requires
 refuse-requires c κs = search rules
 
-enum_told : tie.Need-enum-told
+enum_told : tie.Need-enum_told-1
 enum_told c = search rules
 
-run-swept-requires : tie.Need-run-swept-requires
+run-swept-requires : tie.Need-run_swept-requires
 run-swept-requires c κs =
-    let told = c.before.before.before in
-    let tested = told.before.before.before in
-    spacious (lent (start tested.before)) (roomy tested) (pair-is-fine told)
+    spacious (lent c.before.before.before.before.before.before.before.before.before.before.before.before) (roomy c.before.before.before.before.before) (pair-is-fine c.before.before.before)
 
-same-length-4 : tie.Need-same-length-4
+same-length-4 : tie.Need-shape_of-state-in-Fault
 same-length-4 c = search rules
 
-same-length-5 : tie.Need-same-length-5
+same-length-5 : tie.Need-shape_of-table-in-Fault
 same-length-5 c = search rules
 
-same-length-6 : tie.Need-same-length-6
+same-length-6 : tie.Need-shape_of-names-in-Fault
 same-length-6 c = search rules
 
-returns-2 : tie.Need-returns-2
+returns-2 : tie.Need-returns-in-Fault
 returns-2 c =
-    let judged = c.before.before.before.before in
-    checked_blamed _ _ (lent (start judged.before.before)) (roomy judged.before)
-    (paired-fault _ _ _ _ judged.judge-pair.ensures c.before.before.number.given.1) c.refuse.ensures
+    checked_blamed _ _ (lent c.before.before.before.before.before.before.before.before.before.before) (roomy c.before.before.before)
+    (paired-fault _ _ _ _ c.judge_pair.ensures c.in-Fault.is) c.refuse.ensures
 
-same-length-7 : tie.Need-same-length-7
+same-length-7 : tie.Need-shape_of-state-in-Fine
 same-length-7 c = search rules
 
-same-length-8 : tie.Need-same-length-8
+same-length-8 : tie.Need-shape_of-table-in-Fine
 same-length-8 c = search rules
 
-same-length-9 : tie.Need-same-length-9
+same-length-9 : tie.Need-shape_of-names-in-Fine
 same-length-9 c = search rules
 
-returns-3 : tie.Need-returns-3
+returns-3 : tie.Need-returns-in-Fine
 returns-3 c =
-    let ran = c.before.before.before.before.before.before in
-    let told = ran.before.before.before.before in
-    let tested = told.before.before.before in
-    checked_run _ _ (lent (start tested.before)) (roomy tested) (pair-is-fine told) ran.run-swept.ensures.0
-    ran.run-swept.ensures.1
+    checked_run _ _ (lent c.before.before.before.before.before.before.before.before.before.before.before.before.before.before.before.before.before.before.before) (roomy c.before.before.before.before.before.before.before.before.before.before.before.before) (pair-is-fine c.before.before.before.before.before.before.before.before.before.before) c.run_swept.ensures.0
+    c.run_swept.ensures.1
 
-pub check-spec : {M : Type 1} → statement M
-check-spec =
+pub check_spec : {M : Type 1} → statement M
+check_spec =
     tie.close
     (tie.spec
     no-space-requires

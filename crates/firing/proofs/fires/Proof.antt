@@ -8,63 +8,55 @@ use Rattle.firing.proofs.Records.{rule-cut, list_known, not-by-P, not-by-N, by_n
 use Rattle.firing.proofs.fires.Statement.{statement}
 use Rattle.firing.proofs.fires.Tie as tie
 
-abbrev start : tie.After-rule-list → tie.Start
+abbrev start : tie.After-rule_list-p → tie.Start
 start c = c.before.before.before.before.before
 
-rule-list-requires : tie.Need-rule-list-requires
+rule-list-requires : tie.Need-rule_list-p-requires
 rule-list-requires c κs =
-    let s = c.before.before.before.before in (rule-cut _ s.requires.0 _ s.requires.1, lit< tt)
+ (rule-cut _ c.requires.0 _ c.requires.1, lit< tt)
 
-all-met-requires : tie.Need-all-met-requires
+all-met-requires : tie.Need-all_met-requires
 unfolding KnownList KnownIn of_kind_lem
 all-met-requires c κs =
-    let s = start c in
-    let known = list_known _ s.pre.0 _ s.pre.1 0 (lit< tt) _ c.rule-list.ensures in
-    (λ f i. known.below f i, s.pre.2)
+    let known = list_known _ c.requires.0 _ c.requires.1 0 (lit< tt) _ c.rule_list-p.ensures in
+    (λ f i. known.below f i, c.requires.2)
 
-returns : tie.Need-returns
+returns : tie.Need-returns-then-not-all_met
 returns c =
-    let asked = c.before in
-    not-by-P _ _ _ asked.before.rule-list.ensures _ _
-    (sym asked.all-met.ensures ∙ not-true _ c.if1.true)
+    not-by-P _ _ _ c.rule_list-p.ensures _ _
+    (sym c.all_met.ensures ∙ c.if-not-all_met.true)
 
-rule-list-requires-2 : tie.Need-rule-list-requires-2
-rule-list-requires-2 c κs = let s = start c.before.before in (rule-cut _ s.pre.0 _ s.pre.1, lit< tt)
+rule-list-requires-2 : tie.Need-rule_list-n-requires
+rule-list-requires-2 c κs = (rule-cut _ c.requires.0 _ c.requires.1, lit< tt)
 
-all-met-requires-2 : tie.Need-all-met-requires-2
+all-met-requires-2 : tie.Need-all_met-requires-2
 unfolding KnownList KnownIn of_kind_lem
 all-met-requires-2 c κs =
-    let s = start c.before.before.before in
-    let known = list_known _ s.pre.0 _ s.pre.1 1 (lit< tt) _ c.rule-list2.ensures in
-    (λ f i. known.below f i, s.pre.2)
+    let known = list_known _ c.requires.0 _ c.requires.1 1 (lit< tt) _ c.rule_list-n.ensures in
+    (λ f i. known.below f i, c.requires.2)
 
-returns-2 : tie.Need-returns-2
+returns-2 : tie.Need-returns-then-not-all_met-2
 returns-2 c =
-    let cut = c.before.before in
-    let asked = cut.before.before in
-    not-by-N _ _ _ asked.before.rule-list.ensures _ _
-    (sym asked.all-met.ensures ∙ not-false _ cut.before.if1.false) _ cut.rule-list2.ensures
-    (sym c.before.all-met2.ensures ∙ not-true _ c.if2.true)
+    not-by-N _ _ _ c.rule_list-p.ensures _ _
+    (sym c.all_met.ensures ∙ c.if-not-all_met.false) _ c.rule_list-n.ensures
+    (sym c.all_met-2.ensures ∙ c.if-not-all_met-2.true)
 
-made-requires : tie.Need-made-requires
+made-requires : tie.Need-made-made-requires
 made-requires c κs = search rules
 
-all-met-requires-3 : tie.Need-all-met-requires-3
+all-met-requires-3 : tie.Need-all_met-requires-3
 unfolding KnownList KnownIn of_kind_lem
-all-met-requires-3 c κs = (λ f i. tt, (start c.before.before.before.before.before.before).requires.2)
+all-met-requires-3 c κs = (λ f i. tt, c.requires.2)
 
-returns-3 : tie.Need-returns-3
+returns-3 : tie.Need-returns
 returns-3 c =
-    let asked-N = c.before.before.before in
-    let cut = asked-N.before in
-    let asked = cut.before.before in
-    c.all-met3.ensures
-    ∙ by_names _ _ _ asked.before.rule-list.ensures _ _
-    (sym asked.all-met.ensures ∙ not-false _ cut.before.if1.false) _ cut.rule-list2.ensures
-    (sym asked-N.all-met2.ensures ∙ not-false _ c.before.before.if2.false) _ c.before.made.ensures.0
+    c.all_met-3.ensures
+    ∙ by_names _ _ _ c.rule_list-p.ensures _ _
+    (sym c.all_met.ensures ∙ c.if-not-all_met.false) _ c.rule_list-n.ensures
+    (sym c.all_met-2.ensures ∙ c.if-not-all_met-2.false) _ c.made-made.ensures.0
 
-pub fires-spec : {M : Type 1} → statement M
-fires-spec =
+pub fires_spec : {M : Type 1} → statement M
+fires_spec =
     tie.close
     (tie.spec
     rule-list-requires

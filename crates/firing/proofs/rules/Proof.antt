@@ -12,79 +12,76 @@ use Rattle.firing.proofs.rules.Tie as tie
 abbrev lent : tie.Start → Lent
 lent s = record { state = s.args.state.now; table = s.args.table.now; names = s.args.names.now }
 
-abbrev start : tie.After-no-space → tie.Start
-start c = c.before.before.before.before.before.before.before.before.before.before.before
+abbrev start : tie.After-no_space → tie.Start
+start c = c.before.before.before.before.before.before.before.before
 
 -- past the test there is room
-roomy : (c : tie.Else1) → no_space_lem (lent (start c.before)) ≡ false
-roomy c = sym c.before.no-space.ensures ∙ c.if1.false
+roomy : (c : tie.Else-no_space) → no_space_lem (lent c.before.before.before.before.before.before.before.before.before) ≡ false
+roomy c = sym c.no_space.ensures ∙ c.if-no_space.false
 
-no-space-requires : tie.Need-no-space-requires
+no-space-requires : tie.Need-no_space-requires
 no-space-requires c κs = search rules
 
-same_length : tie.Need-same-length
+same_length : tie.Need-shape_of-state-then-no_space
 same_length c = search rules
 
-same-length-2 : tie.Need-same-length-2
+same-length-2 : tie.Need-shape_of-table-then-no_space
 same-length-2 c = search rules
 
-same-length-3 : tie.Need-same-length-3
+same-length-3 : tie.Need-shape_of-names-then-no_space
 same-length-3 c = search rules
 
-returns : tie.Need-returns
-returns c = rules-room _ _ (lent (start c.before)) _ _ (sym c.before.no-space.ensures ∙ c.if1.true)
+returns : tie.Need-returns-then-no_space
+returns c = rules-room _ _ (lent c.before.before.before.before.before.before.before.before.before) _ _ (sym c.no_space.ensures ∙ c.if-no_space.true)
 
-judge-files-requires : tie.Need-judge-files-requires
+judge-files-requires : tie.Need-judge_files-requires
 judge-files-requires c κs = search rules
 
-enum-known-number : tie.Need-enum-known-number
+enum-known-number : tie.Need-enum_known-number
 enum-known-number c = search rules
 
-enum-known-counts : tie.Need-enum-known-counts
+enum-known-counts : tie.Need-enum_known-counts
 enum-known-counts c = search rules
 
-rules-built-requires : tie.Need-rules-built-requires
+rules-built-requires : tie.Need-rules_built-requires
 rules-built-requires c κs =
-    let counted = c.before.before.before.before.before.before in
-    let judged = counted.before.before in
-    let fine = paired-fine _ _ _ judged.judge-files.ensures counted.counts.given.1 in
-    record { room = roomy judged.before; fine = fine.0; counted = fine.1 }
+    let fine = paired-fine _ _ _ c.judge_files.ensures c.in-Fine.is in
+    record { room = roomy c.before.before.before.before.before.before.before; fine = fine.0; counted = fine.1 }
 
-same-length-4 : tie.Need-same-length-4
+same-length-4 : tie.Need-shape_of-state-in-Fault
 same-length-4 c = search rules
 
-same-length-5 : tie.Need-same-length-5
+same-length-5 : tie.Need-shape_of-table-in-Fault
 same-length-5 c = search rules
 
-same-length-6 : tie.Need-same-length-6
+same-length-6 : tie.Need-shape_of-names-in-Fault
 same-length-6 c = search rules
 
-returns-2 : tie.Need-returns-2
+returns-2 : tie.Need-returns-in-Fault
 returns-2 c =
-    let judged = c.before.before.before in
-    rules_files _ _ (lent (start judged.before.before)) _ _ (roomy judged.before)
-    (paired-fault _ _ _ _ judged.judge-files.ensures c.before.number.given.1)
+    rules_files _ _ (lent c.before.before.before.before.before.before.before.before.before.before.before) _ _ (roomy c.before.before)
+    (paired-fault _ _ _ _ c.judge_files.ensures c.in-Fault.is)
 
-same-length-7 : tie.Need-same-length-7
+same-length-7 : tie.Need-shape_of-state-in-Fine
 same-length-7 c = search rules
 
-same-length-8 : tie.Need-same-length-8
+same-length-8 : tie.Need-shape_of-table-in-Fine
 same-length-8 c = search rules
 
-same-length-9 : tie.Need-same-length-9
+same-length-9 : tie.Need-shape_of-names-in-Fine
 same-length-9 c = search rules
 
-same-length-10 : tie.Need-same-length-10
+same-length-10 : tie.Need-shape_of-index
 same-length-10 c = search rules
 
-same-length-11 : tie.Need-same-length-11
+same-length-11 : tie.Need-shape_of-list
 same-length-11 c = search rules
 
-returns-3 : tie.Need-returns-3
+returns-3 : tie.Need-returns-in-Fine
 returns-3 c = search rules
 
-pub rules-spec : {M : Type 1} → statement M
-rules-spec =
+pub rules_spec : {M : Type 1} → statement M
+rules_spec =
     tie.close
     (tie.spec
     no-space-requires

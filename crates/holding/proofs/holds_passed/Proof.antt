@@ -21,124 +21,104 @@ use borrow.Author.Rules.{rules}
 use Rattle.holding.proofs.holds_passed.Statement.{statement}
 use Rattle.holding.proofs.holds_passed.Tie as tie
 
-abbrev start : tie.After-no-places → tie.Start
-start c = c.before.before.before.before.before.before.before.before
+abbrev start : tie.After-no_places → tie.Start
+start c = c.before.before.before.before.before.before.before
 
 abbrev lent : tie.Start → Lent
 lent s = record { state = s.args.state.now; table = s.args.table.now; names = s.args.names.now }
 
 -- past the first test there is room for the index
-enough : (c : tie.Else1)
-    → let s = start c.before in
-    no_places_lem s.args.model.now s.args.index.now ≡ false
-enough c = sym c.before.no-places.ensures ∙ c.if1.false
+enough : (c : tie.Else-no_places)
+    →    no_places_lem c.args.model.now c.args.index.now ≡ false
+enough c = sym c.no_places.ensures ∙ c.if-no_places.false
 
 -- the trace was judged for the model's own goals and rules
-judged : (c : tie.After-judge-steps)
-    → let s = start c.before.before in
-    let M = model_of_lem s.args.model.now in
-    c.judge-steps.result
-    ≡ paired (steps_fault (length (aims M)) (length M.rules) s.args.trace.now) (counts_of s.args.model.now)
+judged : (c : tie.After-judge_steps)
+    →    let M = model_of_lem c.args.model.now in
+    c.judge_steps.result
+    ≡ paired (steps_fault (length (aims M)) (length M.rules) c.args.trace.now) (counts_of c.args.model.now)
 judged c =
-    let s = start c.before.before in
-    c.judge-steps.ensures ∙ steps-counted s.args.model.now s.args.trace.now _ s.pre.counted
+    c.judge_steps.ensures ∙ steps-counted c.args.model.now c.args.trace.now _ c.requires.counted
 
 -- the trace has no fault
-steps-fine : (c : tie.After-enum-told)
-    → let s = start c.before.before.before.before in
-    let M = model_of_lem s.args.model.now in
-    steps_fault (length (aims M)) (length M.rules) s.args.trace.now ≡ none
-steps-fine c = (paired-fine _ _ _ (judged c.before.before) c.enum_told.given.1).0
+steps-fine : (c : tie.In-Fine)
+    →    let M = model_of_lem c.args.model.now in
+    steps_fault (length (aims M)) (length M.rules) c.args.trace.now ≡ none
+steps-fine c = (paired-fine _ _ _ (judged c.before) c.in-Fine.is).0
 
-no-places-requires : tie.Need-no-places-requires
+no-places-requires : tie.Need-no_places-requires
 unfolding counts_of
 no-places-requires c κs =
-    let s = c.before.before.before.before.before.before.before in
-    (files_shape _ _ s.requires.fine, sym (ap (λ (n : Counts). n.clauses) s.requires.counted))
+    (files_shape _ _ c.requires.fine, sym (ap (λ (n : Counts). n.clauses) c.requires.counted))
 
-same_length : tie.Need-same-length
+same_length : tie.Need-shape_of-index-then-no_places
 same_length c = search rules
 
-returns : tie.Need-returns
+returns : tie.Need-returns-then-no_places
 returns c =
-    let s = start c.before in
-    holds-short _ _ _ (lent s) _ s.pre.room s.pre.fine (sym c.before.no-places.ensures ∙ c.if1.true)
+    holds-short _ _ _ (lent c.before.before.before.before.before.before.before.before) _ c.requires.room c.requires.fine (sym c.no_places.ensures ∙ c.if-no_places.true)
 
-judge-steps-requires : tie.Need-judge-steps-requires
+judge-steps-requires : tie.Need-judge_steps-requires
 judge-steps-requires c κs = search rules
 
-enum-known-number : tie.Need-enum-known-number
+enum-known-number : tie.Need-enum_known-number
 enum-known-number c = search rules
 
-enum_told : tie.Need-enum-told
+enum_told : tie.Need-enum_told-1
 enum_told c = search rules
 
 facts-requires : tie.Need-facts-requires
 facts-requires c κs =
-    let s = start c.before.before.before.before in
-    files_shape _ _ s.pre.fine
+    files_shape _ _ c.requires.fine
 
 -- the model's facts were asked for once the trace had passed
-abbrev tested : tie.After-facts → tie.Else1
-tested c = c.before.before.before.before
+abbrev tested : tie.After-facts → tie.Else-no_places
+tested c = c.before.before.before
 
-same-length-2 : tie.Need-same-length-2
+same-length-2 : tie.Need-shape_of-index-then-facts-asked
 same-length-2 c = search rules
 
-returns-2 : tie.Need-returns-2
+returns-2 : tie.Need-returns-then-facts-asked
 returns-2 c =
-    let facts = c.before in
-    let first = tested facts in
-    let s = start first.before in
-    holds-fact _ _ _ (lent s) _ s.pre.room s.pre.fine (enough first) (steps-fine facts.before)
-    (le-leb _ _ (rw facts.facts.ensures at c.if2.true))
+    holds-fact _ _ _ (lent c.before.before.before.before.before.before.before.before.before.before.before.before) _ c.requires.room c.requires.fine (enough c.before.before.before.before) (steps-fine c.before.before)
+    (le-leb _ _ (rw c.facts.ensures at c.if-facts-asked.true))
 
-run-built-requires : tie.Need-run-built-requires
+run-built-requires : tie.Need-run_built-requires
 run-built-requires c κs =
-    let facts = c.before.before.before.before.before in
-    let first = tested facts in
-    let s = start first.before in
-    let shape = files_shape _ _ s.pre.fine in (
-      spacious (lent s) s.pre.room (stages_fine _ _ s.pre.fine (steps-fine facts.before)),
-      enough first,
-      omega (arith, c.before.before.before.before.if2.false, facts.facts.ensures, facts-bound _ shape),
+    let shape = files_shape _ _ c.requires.fine in (
+      spacious (lent c.before.before.before.before.before.before.before.before.before.before.before.before.before.before.before.before) c.requires.room (stages_fine _ _ c.requires.fine (steps-fine c.before.before.before.before.before.before)),
+      enough c.before.before.before.before.before.before.before.before,
+      omega (arith, c.if-facts-asked.false, c.facts.ensures, facts-bound _ shape),
     )
 
-same-length-3 : tie.Need-same-length-3
+same-length-3 : tie.Need-shape_of-index-in-Fault
 same-length-3 c = search rules
 
-returns-3 : tie.Need-returns-3
+returns-3 : tie.Need-returns-in-Fault
 returns-3 c =
-    let asked = c.before.before.before in
-    let s = start asked.before.before in
-    holds-steps _ _ _ (lent s) _ s.pre.room s.pre.fine (enough asked.before)
-    (paired-fault _ _ _ _ (judged asked) c.before.number.given.1)
+    holds-steps _ _ _ (lent c.before.before.before.before.before.before.before.before.before.before) _ c.requires.room c.requires.fine (enough c.before.before)
+    (paired-fault _ _ _ _ (judged c.before) c.in-Fault.is)
 
-same-length-4 : tie.Need-same-length-4
+same-length-4 : tie.Need-shape_of-state
 same-length-4 c = search rules
 
-same-length-5 : tie.Need-same-length-5
+same-length-5 : tie.Need-shape_of-table
 same-length-5 c = search rules
 
-same-length-6 : tie.Need-same-length-6
+same-length-6 : tie.Need-shape_of-names
 same-length-6 c = search rules
 
-same-length-7 : tie.Need-same-length-7
+same-length-7 : tie.Need-shape_of-index-else-facts-asked
 same-length-7 c = search rules
 
-returns-4 : tie.Need-returns-4
+returns-4 : tie.Need-returns-else-facts-asked
 returns-4 c =
-    let ran = c.before.before.before.before.before.before.before.before in
-    let past = ran.before.before.before.before.before in
-    let facts = past.before in
-    let first = tested facts in
-    let s = start first.before in
-    let (asks, holds) = ran.run-built.ensures in
-    holds-ran _ _ _ (lent s) _ s.pre.room s.pre.fine (enough first) (steps-fine facts.before)
-    (lt-leb _ _ (rw facts.facts.ensures at past.if2.false)) asks holds
+    let (asks, holds) = c.run_built.ensures in
+    holds-ran _ _ _ (lent c.before.before.before.before.before.before.before.before.before.before.before.before.before.before.before.before.before.before.before.before.before.before.before.before.before) _ c.requires.room c.requires.fine (enough c.before.before.before.before.before.before.before.before.before.before.before.before.before.before.before.before.before) (steps-fine c.before.before.before.before.before.before.before.before.before.before.before.before.before.before.before)
+    (lt-leb _ _ (rw c.facts.ensures at c.if-facts-asked.false)) asks holds
 
-pub holds-passed-spec : {M : Type 1} → statement M
-holds-passed-spec =
+pub holds_passed_spec : {M : Type 1} → statement M
+holds_passed_spec =
     tie.close
     (tie.spec
     no-places-requires

@@ -8,46 +8,43 @@ use borrow.Author.Rules.{rules}
 use Rattle.holding.proofs.run_built.Statement.{statement}
 use Rattle.holding.proofs.run_built.Tie as tie
 
-build-index-requires : tie.Need-build-index-requires
+build-index-requires : tie.Need-build_index-n-requires
 build-index-requires c κs =
-    let s = c.before.before.before.before.before.before.before.before.before in
-    let fine = fine_pair _ _ s.requires.0.fine in
-    (fine.shape, fine.model-size, s.requires.1, cleared, refl)
+    let fine = fine_pair _ _ c.requires.0.fine in
+    (fine.shape, fine.model-size, c.requires.1, cleared, refl)
 
-slice-aggregate-run-for : tie.Need-slice-aggregate-run-for
+slice-aggregate-run-for : tie.Need-slice_bounds-run_for-end
 slice-aggregate-run-for c = search rules
 
-array-share-prefix-starts : tie.Need-array-share-prefix-starts
+array-share-prefix-starts : tie.Need-slice_bounds-starts-end
 array-share-prefix-starts c = search rules
 
-slice-aggregate-run-for-2 : tie.Need-slice-aggregate-run-for-2
+slice-aggregate-run-for-2 : tie.Need-slice_bounds-run_for-end-2
 slice-aggregate-run-for-2 c =
-    let built = c.before.before.before.before.before.before.before.before.build-index.ensures in
+    let built = c.build_index-n.ensures in
     sym (length-take-le _ _ (omega (arith, built.few, built.starts-sized)))
 
-run-for-requires : tie.Need-run-for-requires
+run-for-requires : tie.Need-run_for-requires
 run-for-requires c κs =
-    let built = c.before.before.before.before.before.before.before.before in
-    let s = built.before.before.before.before.before.before.before.before.before.before in
-    (s.requires.0, built.build-index.ensures.listed, built.build-index.ensures.placed, s.requires.2)
+    (c.requires.0, c.build_index-n.ensures.listed, c.build_index-n.ensures.placed, c.requires.2)
 
-same_length : tie.Need-same-length
+same_length : tie.Need-shape_of-state
 same_length c = search rules
 
-same-length-2 : tie.Need-same-length-2
+same-length-2 : tie.Need-shape_of-table
 same-length-2 c = search rules
 
-same-length-3 : tie.Need-same-length-3
+same-length-3 : tie.Need-shape_of-names
 same-length-3 c = search rules
 
-same-length-4 : tie.Need-same-length-4
+same-length-4 : tie.Need-shape_of-index
 same-length-4 c = search rules
 
 returns : tie.Need-returns
 returns c = search rules
 
-pub run-built-spec : {M : Type 1} → statement M
-run-built-spec =
+pub run_built_spec : {M : Type 1} → statement M
+run_built_spec =
     tie.close
     (tie.spec
     build-index-requires

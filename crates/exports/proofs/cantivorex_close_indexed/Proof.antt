@@ -4,60 +4,53 @@ use borrow.Author.Rules.{rules}
 use Rattle.exports.proofs.cantivorex_close_indexed.Statement.{statement}
 use Rattle.exports.proofs.cantivorex_close_indexed.Tie as tie
 
-returns : tie.Need-returns
+returns : tie.Need-returns-then-out-lt2
 returns c =
-    let s = c.before.before.before.before.before.before in
-    no_crossings s.args.model.now s.args.state.now s.args.table.now s.args.index.now
-    s.args.out.now c.if1.true
+    no_crossings c.args.model.now c.args.state.now c.args.table.now c.args.index.now
+    c.args.out.now c.if-out-lt2.true
 
-close-indexed-requires : tie.Need-close-indexed-requires
+close-indexed-requires : tie.Need-close_indexed-requires
 close-indexed-requires c κs = search rules
 
-enum-known-n : tie.Need-enum-known-n
+enum-known-n : tie.Need-enum_known-n
 enum-known-n c = search rules
 
-slice-write-out : tie.Need-slice-write-out
+slice-write-out : tie.Need-bounds-out-0
 slice-write-out c = search rules
 
-slice-write-out-2 : tie.Need-slice-write-out-2
+slice-write-out-2 : tie.Need-bounds-out-1
 slice-write-out-2 c = search rules
 
-enum-known-number : tie.Need-enum-known-number
+enum-known-number : tie.Need-enum_known-number
 enum-known-number c = search rules
 
-same_length : tie.Need-same-length
+same_length : tie.Need-shape_of-table-in-Rounds
 same_length c = search rules
 
-same-length-2 : tie.Need-same-length-2
+same-length-2 : tie.Need-shape_of-index-in-Rounds
 same-length-2 c = search rules
 
-same-length-3 : tie.Need-same-length-3
+same-length-3 : tie.Need-shape_of-out
 same-length-3 c = search rules
 
-returns-2 : tie.Need-returns-2
+returns-2 : tie.Need-returns-in-Rounds
 returns-2 c =
-    let closed = c.before.before.before.before.before.before.before in
-    let room = closed.before.before.before in
-    let s = room.before.before.before.before.before.before in
-    some-crossings s.args.model.now s.args.state.now s.args.table.now s.args.index.now _ _
-    s.args.out.now _ _ room.if1.false closed.close-indexed.ensures _ c.before.n.given.1
+    some-crossings c.args.model.now c.args.state.now c.args.table.now c.args.index.now _ _
+    c.args.out.now _ _ c.if-out-lt2.false c.close_indexed.ensures _ c.in-Rounds.is
 
-same-length-4 : tie.Need-same-length-4
+same-length-4 : tie.Need-shape_of-table-in-Refused
 same-length-4 c = search rules
 
-same-length-5 : tie.Need-same-length-5
+same-length-5 : tie.Need-shape_of-index-in-Refused
 same-length-5 c = search rules
 
-returns-3 : tie.Need-returns-3
+returns-3 : tie.Need-returns-in-Refused
 returns-3 c =
-    let closed = c.before.before.before.before.before.before.before in
-    let room = closed.before.before.before in
-    let s = room.before.before.before.before.before.before in
-    crossings-refused s.args.model.now s.args.state.now s.args.table.now s.args.index.now _ _
-    s.args.out.now _ _ room.if1.false closed.close-indexed.ensures c.before.number.given.1
+    crossings-refused c.args.model.now c.args.state.now c.args.table.now c.args.index.now _ _
+    c.args.out.now _ _ c.if-out-lt2.false c.close_indexed.ensures c.in-Refused.is
 
-pub cantivorex-close-indexed-spec : {M : Type 1} → statement M
-cantivorex-close-indexed-spec =
+pub cantivorex_close_indexed_spec : {M : Type 1} → statement M
+cantivorex_close_indexed_spec =
     tie.close
     (tie.spec
     returns

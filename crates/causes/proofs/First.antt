@@ -1,20 +1,19 @@
 -- Laws on what is wrong first, by the passes over a record: a chain of tests in the order of its numbers, and with it
 -- the sizes and bare numbers.
-use Prim.Native.Nat.{ℕ, zero, suc, ◌≤◌, ◌<◌}
-use mathlib.Core.Path.{◌≡◌, refl, ap, ◌∙◌}
+use Prim.Native.Nat.{ℕ, zero, suc, ◌<◌}
+use mathlib.Core.Path.{◌≡◌, refl, ap}
 use mathlib.Core.Logic.{◌⊎◌, inl, inr, ⊎_elim}
-use mathlib.Core.Bool.{Bool, true, false, true≢false, not, ◌||◌}
+use mathlib.Core.Bool.{Bool, true, false, true≢false, not}
 use mathlib.Core.List.{List, [], ◌∷◌}
 use mathlib.Core.Option.{Option, none, some}
 use native.Mathlib.Omega.{arith}
 use lib.Dec.{leb, ltb, eqb, lit<}
 use lib.ListN.{length}
 use borrow.Author.Tests.{leb-true, ltb-true, ltb-false, eqb-true, eqb-false, le-leb, not-false, not-true}
-use Rattle.sets.specs.Sets.{any, ◌∈◌}
+use Rattle.sets.specs.Sets.{any}
 use Rattle.sets.proofs.Laws.{is_true, passes, fails, by-test, both, any_in, any_intro}
 use Rattle.records.specs.Words.{word, words, odd, ascending}
 use Rattle.records.specs.Records.{given, ◌or_else◌, bare}
-use Rattle.records.specs.declared.Kind.TheVariants as kind
 use Rattle.records.proofs.Words.{odd-length, even-length}
 use Rattle.sections.specs.Sections.{sizes}
 use Rattle.causes.specs.Causes.{Unordered, WrongSizes, WrongNumbers, WrongFacts, WrongNames}

@@ -9,7 +9,7 @@ use native.Mathlib.Nat.{add-zero, zero-add}
 use native.Mathlib.Omega.{arith}
 use borrow.Author.Tests.{ltb-true}
 use lib.ListN.{length, take, drop, get_or}
-use Rattle.records.specs.Records.{records, place_of}
+use Rattle.records.specs.Records.{place_of}
 use Rattle.records.specs.declared.Fault.{Fault}
 use Rattle.lists.proofs.Laws.{passed-at}
 use Rattle.sections.specs.Sections.{section_at, fits, in_section, left_over, reader}

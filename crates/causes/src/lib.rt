@@ -2,4 +2,3 @@
 // the definitions are in specs/, in proofs/ that what `files` finds is the cause and nothing else.
 
 #![tactic(auto)]
-

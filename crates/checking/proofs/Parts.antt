@@ -6,11 +6,8 @@ use mathlib.Core.Option.{none, some}
 use native.Mathlib.Omega.{arith}
 use lib.Dec.{ltb}
 use lib.ListN.{length}
-use Rattle.sets.specs.Sets.{Facts}
 use Rattle.sets.proofs.Laws.{by-test}
-use Rattle.meaning.specs.Past.{History}
-use Rattle.meaning.specs.Model.{Aim}
-use Rattle.meaning.specs.Run.{Ending, Outcome}
+use Rattle.meaning.specs.Run.{Outcome}
 use Rattle.meaning.specs.Promises.{EndsSo}
 use Rattle.meaning.specs.Promises.EndsSo.{attack, blocked, not_met}
 use Rattle.files.specs.Files.{Blamed, model_of_lem, trace_of, pair_fault}

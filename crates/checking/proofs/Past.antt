@@ -4,11 +4,11 @@ use Prim.Native.Nat.{ℕ}
 use mathlib.Core.Path.{◌≡◌, refl, sym, ap, ◌∙◌, subst}
 use mathlib.Core.Bool.{true, false}
 use mathlib.Core.Logic.{◌↔◌, inl, inr}
-use mathlib.Core.List.{List, ◌∷◌}
+use mathlib.Core.List.{List}
 use lib.ListN.{length, take}
 use lib.Seq.{take-length}
-use Rattle.sets.specs.Sets.{Facts, size}
-use Rattle.meaning.specs.Past.{Formula, History, truth}
+use Rattle.sets.specs.Sets.{size}
+use Rattle.meaning.specs.Past.{Formula}
 use Rattle.meaning.specs.Model.{State, aim_of, start}
 use Rattle.meaning.specs.Model.Aim.{formula}
 use Rattle.meaning.specs.Rounds.{closure}

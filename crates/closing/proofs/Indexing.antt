@@ -7,7 +7,6 @@ use mathlib.Core.Option.{Option, none, some}
 use native.Mathlib.Omega.{arith}
 use lib.ListN.{length, take, replicate}
 use lib.Seq.{get_or-take, length-take-le}
-use Rattle.meaning.specs.Rounds.{rounds}
 use Rattle.facts.specs.Facts.{members}
 use Rattle.records.specs.Records.{given, ◌or_else◌}
 use Rattle.records.specs.declared.Fault.{Fault}

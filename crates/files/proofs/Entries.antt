@@ -13,7 +13,6 @@ use borrow.Author.Tests.{lt-ltb, le-ltb, eqb-false}
 use Rattle.sets.specs.Sets.{first}
 use Rattle.records.specs.Words.{words, odd}
 use Rattle.records.specs.Records.{given, ◌or_else◌}
-use Rattle.records.specs.declared.Fault.{Fault}
 use Rattle.records.proofs.Words.{odd_is, length-words}
 use Rattle.sections.specs.Sections.{end_at, section_at, fits, payload, rest_fault_lem, moved, in_section, left_over, all_of}
 use Rattle.files.specs.Files.{entries_of, trace_of, trace_shape, trace_count, lacks, trace_names, trace_fault}

@@ -1,7 +1,7 @@
 -- What the formulas of a judged model are: their records, and the codes of a goal.
 use Prim.Native.Nat.{ℕ, ◌+◌, ◌-◌, ◌≤◌, ◌<◌}
-use mathlib.Core.Path.{◌≡◌, refl, sym, ap, ◌∙◌}
-use mathlib.Core.Bool.{Bool, true, false, ◌&&◌, true≢false}
+use mathlib.Core.Path.{◌≡◌, refl, sym, ap}
+use mathlib.Core.Bool.{Bool, true, ◌&&◌, true≢false}
 use mathlib.Core.Logic.{⊎_elim}
 use mathlib.Core.List.{List, [], ◌∷◌}
 use mathlib.Core.Option.{none}
@@ -10,7 +10,6 @@ use native.Mathlib.Omega.{arith}
 use lib.Dec.{leb, ltb}
 use lib.ListN.{length, drop, get_or}
 use borrow.Author.Tests.{lt-ltb, leb-false, ltb-false, eqb-true}
-use Rattle.sets.specs.Sets.{◌∈◌}
 use Rattle.sets.proofs.Laws.{both, passes, is_false, fails, any_intro, below_or_from}
 use Rattle.meaning.specs.Model.{aims}
 use Rattle.records.specs.Words.{word, words}

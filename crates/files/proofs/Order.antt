@@ -30,7 +30,6 @@ use Rattle.sections.proofs.Fits.{neither, not-given, section-fine}
 use Rattle.sections.proofs.Parts.{fit-ended, fit-end, ended-size}
 use Rattle.sections.proofs.Answers.{passed_to, passed-fault, or_first, or_next}
 use Rattle.files.specs.Files.{roles, roles_of, tag, index_of, has, place_of_role, section_of, fact_count, clauses_in}
-use Rattle.files.specs.Files.{model_of_lem}
 use Rattle.files.specs.Files.{fault_from, shape_fault}
 use Rattle.files.specs.Answers.{counts_of, noted, noted_from}
 use Rattle.files.specs.declared.Counts.{Counts}

@@ -13,8 +13,8 @@ use lib.ListN.{length, get_or}
 use Rattle.sets.specs.Sets.{Facts}
 use Rattle.sets.proofs.Laws.{passes, fails, by-test}
 use Rattle.meaning.specs.Model.{Clause, Model, aims}
-use Rattle.meaning.specs.Rounds.{round, rounds, closure, round_number}
-use Rattle.meaning.specs.Early.{shown, rounds_for}
+use Rattle.meaning.specs.Rounds.{round, closure, round_number}
+use Rattle.meaning.specs.Early.{rounds_for}
 use Rattle.meaning.specs.Run.{Condition, Ending, Outcome}
 use Rattle.meaning.specs.Run.Ending.{attack, blocked, not_met, upheld}
 use Rattle.meaning.specs.Published.{HC}

@@ -1,7 +1,7 @@
 -- Laws on strictly ascending numbers, and on looking one up by halves.
 use Prim.Native.Nat.{ℕ, zero, suc, ◌+◌, ◌≤◌, ◌<◌}
 use mathlib.Core.Path.{◌≡◌, refl, sym, subst}
-use mathlib.Core.Bool.{true, false, ◌&&◌}
+use mathlib.Core.Bool.{true, false}
 use mathlib.Core.Logic.{⊎_elim, ∥∥₁_elim}
 use mathlib.Core.HLevel.{⊥_prop}
 use mathlib.Core.List.Memᴰ
@@ -9,7 +9,7 @@ use mathlib.Core.List.{List, [], ◌∷◌, Nodup, Nodup-nil, Nodup-cons}
 use native.Mathlib.Nat.{not-suc-le-zero, le_of_suc-le-suc}
 use native.Mathlib.Omega.{arith}
 use borrow.Author.Tests.{ltb-true}
-use lib.Dec.{T, ltb}
+use lib.Dec.{ltb}
 use lib.ListN.{length, get_or}
 use Rattle.sets.specs.Sets.{listed, ◌∈◌}
 use Rattle.sets.proofs.Laws.{passes, is_true, is_false, both, listed-is, get_or_in, below_or_from}

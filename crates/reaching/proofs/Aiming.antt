@@ -1,6 +1,6 @@
 -- Laws on what is kept for the goal from state to state, and on what is asked of the last one.
 use Prim.Native.Nat.{ℕ, ◌≤◌, ◌<◌}
-use mathlib.Core.Path.{◌≡◌, refl}
+use mathlib.Core.Path.{◌≡◌}
 use mathlib.Core.Bool.{Bool, cond}
 use mathlib.Core.List.{List, [], ◌∷◌, replicate}
 use mathlib.Core.Logic.{⊎_elim}

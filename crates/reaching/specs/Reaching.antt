@@ -1,5 +1,5 @@
 -- Where a pair's steps lead: what a run is lent, and what the search over the steps is told and leaves.
-use Rattle.std.specs.Prelude.{ℕ, ◌+◌, ◌*◌, ◌≤◌, ◌≡◌, List, length, get_or, drop}
+use Rattle.std.specs.Prelude.{ℕ, ◌+◌, ◌*◌, ◌≤◌, ◌≡◌, List, length, drop}
 use Rattle.std.proofs.Math.Option.{none, some}
 use Rattle.meaning.specs.Past.{History}
 use Rattle.meaning.specs.Model.{Model, Aim, State, aim_of, start}

@@ -1,6 +1,6 @@
 -- Laws on reading a formula's codes from the front, with the operators above the place at hand.
-use Prim.Native.Nat.{ℕ, zero, suc, ◌+◌, ◌-◌, ◌*◌, ◌/◌, ◌%◌, ◌^◌, ◌≤◌, ◌<◌}
-use mathlib.Core.Path.{◌≡◌, refl, ap, sym, ◌∙◌}
+use Prim.Native.Nat.{ℕ, zero, suc, ◌+◌, ◌-◌, ◌/◌, ◌%◌, ◌^◌, ◌≤◌, ◌<◌}
+use mathlib.Core.Path.{◌≡◌, refl, sym, ◌∙◌}
 use mathlib.Core.Bool.{Bool, true, false, not, ◌||◌, cond, true≢false}
 use mathlib.Core.List.{List, [], ◌∷◌}
 use mathlib.Core.Option.{Option, none, some, bind}
@@ -9,7 +9,7 @@ use native.Mathlib.Omega.{arith}
 use lib.Dec.{T, leb, ltb, eqb}
 use lib.ListN.{length}
 use borrow.Author.Tests.{le-ltb, ne_eqb, leb-true, leb-false, ltb-true, ltb-false, eqb-false}
-use Rattle.sets.specs.Sets.{any, every, listed}
+use Rattle.sets.specs.Sets.{every, listed}
 use Rattle.sets.proofs.Laws.{is_true, is_false, by-test, every_in, listed-is}
 use Rattle.records.specs.Codes.{over_one_lem, over_two_lem, behind, is_formula_lem}
 use Rattle.records.proofs.Judging.{or_clear}

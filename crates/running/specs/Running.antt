@@ -1,6 +1,6 @@
 -- What the run's own functions are told and leave, and what their answers are in the words of `meaning`. No promise to
 -- the outside rests on these.
-use Rattle.std.specs.Prelude.{ℕ, ◌≤◌, ◌<◌, ◌≡◌, List, length, get_or, drop}
+use Rattle.std.specs.Prelude.{ℕ, ◌≤◌, ◌<◌, ◌≡◌, List, length, get_or}
 use Rattle.sets.specs.Sets.{Facts}
 use Rattle.meaning.specs.Past.{History}
 use Rattle.meaning.specs.Model.{Model, Aim}

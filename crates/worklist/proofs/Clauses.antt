@@ -9,7 +9,7 @@ use lib.Seq.{drop-drop, get_or-drop, get_or-take}
 use Rattle.meaning.specs.Model.{Clause}
 use Rattle.meaning.specs.Working.{clause_at}
 use Rattle.records.specs.Words.{word, words}
-use Rattle.records.specs.Records.{record_of_lem, records, place_of}
+use Rattle.records.specs.Records.{record_of_lem, records}
 use Rattle.records.specs.declared.Kind.{Kind}
 use Rattle.records.proofs.Words.{length-words}
 use Rattle.records.proofs.Places.{place-record, place-next, record_in_lem}

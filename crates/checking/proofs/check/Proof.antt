@@ -24,7 +24,7 @@ roomy c = sym c.no_space.ensures ∙ c.if-no_space.false
 
 -- the pair has no fault
 pair-is-fine : (c : tie.In-Fine)
-    →    pair_fault c.args.model.now c.args.trace.now ≡ none
+    → pair_fault c.args.model.now c.args.trace.now ≡ none
 pair-is-fine c = (paired-fine _ _ _ c.judge_pair.ensures c.in-Fine.is).0
 
 no-space-requires : tie.Need-no_space-requires

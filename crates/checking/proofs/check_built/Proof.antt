@@ -30,7 +30,7 @@ placed c = sym c.no_places.ensures ∙ c.if-no_places.false
 
 -- the trace was judged for the model's own goals and rules
 told : (c : tie.After-judge_steps)
-    →    let M = model_of_lem c.args.model.now in
+    → let M = model_of_lem c.args.model.now in
     c.judge_steps.result
     ≡ paired (steps_fault (length (aims M)) (length M.rules) c.args.trace.now) (counts_of c.args.model.now)
 told c =
@@ -38,7 +38,7 @@ told c =
 
 -- the trace has no fault
 steps-fine : (c : tie.In-Fine)
-    →    let M = model_of_lem c.args.model.now in
+    → let M = model_of_lem c.args.model.now in
     steps_fault (length (aims M)) (length M.rules) c.args.trace.now ≡ none
 steps-fine c = (paired-fine _ _ _ (told c.before) c.in-Fine.is).0
 

@@ -17,7 +17,7 @@ start c = c.before.before.before.before.before.before
 
 -- what was answered is whether a bit from F on is set
 from_is : (c : tie.After-any_from)
-    →    c.any_from.result ≡ some_from (fact_count c.args.model.now) (members c.args.state.now)
+    → c.any_from.result ≡ some_from (fact_count c.args.model.now) (members c.args.state.now)
 from_is c =
     let S = members c.args.state.now in
     some-from _ _ _ c.any_from.ensures ∙ ap (λ F. some_from F S) c.facts.ensures
@@ -34,7 +34,7 @@ returns c =
 
 build-index-requires : tie.Need-build_index-n-requires
 build-index-requires c κs =
- (c.requires.0, c.requires.1, c.requires.3, cleared, refl)
+    (c.requires.0, c.requires.1, c.requires.3, cleared, refl)
 
 slice-aggregate-close-worked : tie.Need-slice_bounds-close_worked-end
 slice-aggregate-close-worked c = sym c.build_index-n.ensures.ends-sized

@@ -75,13 +75,12 @@ returns-2 c =
     (sym c.no_places.ensures ∙ c.if-no_places.true))
 
 close-built-requires : tie.Need-close_built-requires
-close-built-requires c κs =
- (
-      fine-shape _ (fine c.before.before.before.before).0,
-      fine-size _ (fine c.before.before.before.before).0,
-      table-room _ _ (roomy c.before.before.before.before.before.before),
-      placed c.before.before,
-    )
+close-built-requires c κs = (
+  fine-shape _ (fine c.before.before.before.before).0,
+  fine-size _ (fine c.before.before.before.before).0,
+  table-room _ _ (roomy c.before.before.before.before.before.before),
+  placed c.before.before,
+)
 
 same-length-4 : tie.Need-shape_of-table-in-Fault
 same-length-4 c = search rules

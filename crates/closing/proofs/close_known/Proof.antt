@@ -10,7 +10,7 @@ use Rattle.closing.proofs.close_known.Tie as tie
 
 -- what was answered is whether a bit from F on is set
 from_is : (c : tie.After-any_from)
-    →    c.any_from.result ≡ some_from (fact_count c.args.model.now) (members c.args.state.now)
+    → c.any_from.result ≡ some_from (fact_count c.args.model.now) (members c.args.state.now)
 from_is c =
     let S = members c.args.state.now in
     some-from _ _ _ c.any_from.ensures ∙ ap (λ F. some_from F S) c.facts.ensures

@@ -49,12 +49,11 @@ add-fact-stands : tie.Need-overflow_add-i invariant-loop decreases-loop
 add-fact-stands c = omega arith
 
 fact-stands-requires-2 : tie.Need-fact_stands-requires-in-loop-i invariant-loop decreases-loop
-fact-stands-requires-2 c κs =
- (
-      second_fits (body c.before) (i c.before) (two c.before),
-      low_second (body c.before) (i c.before) (two c.before) c.loop-i.invariant.2,
-      c.requires.1,
-    )
+fact-stands-requires-2 c κs = (
+  second_fits (body c.before) (i c.before) (two c.before),
+  low_second (body c.before) (i c.before) (two c.before) c.loop-i.invariant.2,
+  c.requires.1,
+)
 
 -- After both calls: the answer is theirs and that for the facts from there on.
 module _ (c : tie.After-fact_stands-in-loop-i invariant-loop decreases-loop) where

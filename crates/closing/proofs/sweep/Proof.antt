@@ -151,7 +151,7 @@ slice-write-table c = omega (arith, low c.before.before.before.before.before, lo
 
 -- What `stands` answers is whether the clause's body stands.
 body : (c : tie.After-stands invariant-loop decreases-loop)
-    →    c.stands.result ≡ stands (up_to c.loop-at.table c.args.r) (this c.before.before.before.before)
+    → c.stands.result ≡ stands (up_to c.loop-at.table c.args.r) (this c.before.before.before.before)
 unfolding stands clause_of
 body c = c.stands.ensures ∙ rw (rest_of (bytes c.before.before.before.before.before.before) 4)
 

@@ -2,7 +2,6 @@
 use Prim.Native.Nat.{◌≤◌, ◌<◌, ◌-◌}
 use mathlib.Core.Path.{◌≡◌, refl, ◌∙◌}
 use native.Mathlib.Omega.{arith}
-use borrow.Author.Tests.{ltb-true, ltb-false}
 use lib.ListN.{length, length-set}
 use Rattle.exports.proofs.Fronts.{front, copied, copied_all, copied-full}
 use Rattle.exports.proofs.copy.Statement.{statement}

@@ -1,7 +1,6 @@
 -- `firing::fires` meets its contract: P's conditions are met, then N's, then those of the names.
 use mathlib.Core.Path.{sym, ◌∙◌}
 use lib.Dec.{lit<}
-use borrow.Author.Tests.{not-true, not-false}
 use borrow.Author.Rules.{rules}
 use Rattle.stepping.specs.Conditions.{KnownIn, of_kind_lem, KnownList}
 use Rattle.firing.proofs.Records.{rule-cut, list_known, not-by-P, not-by-N, by_names}
@@ -13,7 +12,7 @@ start c = c.before.before.before.before.before
 
 rule-list-requires : tie.Need-rule_list-p-requires
 rule-list-requires c κs =
- (rule-cut _ c.requires.0 _ c.requires.1, lit< tt)
+    (rule-cut _ c.requires.0 _ c.requires.1, lit< tt)
 
 all-met-requires : tie.Need-all_met-requires
 unfolding KnownList KnownIn of_kind_lem

@@ -30,19 +30,19 @@ lent s = record { state = s.args.state.now; table = s.args.table.now; names = s.
 
 -- what is tested is whether the list or the index is short
 short : (c : tie.After-struct_known-1)
-    →    (ltb (length c.args.list.now) c.args.counts.rules || c.no_places-short.result)
+    → (ltb (length c.args.list.now) c.args.counts.rules || c.no_places-short.result)
     ≡ (list_short c.args.model.now c.args.list.now || no_places_lem c.args.model.now c.args.index.now)
 short c = short-is _ _ _ _ _ c.requires.counted c.no_places-short.ensures
 
 -- past the test neither is
 enough : (c : tie.Else-list-counts)
-    →    (list_short c.args.model.now c.args.list.now || no_places_lem c.args.model.now c.args.index.now)
+    → (list_short c.args.model.now c.args.list.now || no_places_lem c.args.model.now c.args.index.now)
     ≡ false
 enough c = sym (short c.before) ∙ c.if-list-counts.false
 
 -- the trace was judged for the model's own goals and rules
 judged : (c : tie.After-judge_steps)
-    →    let M = model_of_lem c.args.model.now in
+    → let M = model_of_lem c.args.model.now in
     c.judge_steps.result
     ≡ paired (steps_fault (length (aims M)) (length M.rules) c.args.trace.now) (counts_of c.args.model.now)
 judged c =
@@ -50,7 +50,7 @@ judged c =
 
 -- the trace has no fault
 steps-fine : (c : tie.In-Fine)
-    →    let M = model_of_lem c.args.model.now in
+    → let M = model_of_lem c.args.model.now in
     steps_fault (length (aims M)) (length M.rules) c.args.trace.now ≡ none
 steps-fine c = (paired-fine _ _ _ (judged c.before) c.in-Fine.is).0
 
@@ -76,11 +76,10 @@ enum_told : tie.Need-enum_told-1
 enum_told c = search rules
 
 run-indexed-requires : tie.Need-run_indexed-requires
-run-indexed-requires c κs =
- (
-      spacious (lent c.before.before.before.before.before.before.before.before.before.before.before.before.before.before.before.before) c.requires.room (stages_fine _ _ c.requires.fine (steps-fine c.before.before.before.before)),
-      (or_clear (list_short c.args.model.now c.args.list.now) _ (enough c.before.before.before.before.before.before)).1,
-    )
+run-indexed-requires c κs = (
+  spacious (lent c.before.before.before.before.before.before.before.before.before.before.before.before.before.before.before.before) c.requires.room (stages_fine _ _ c.requires.fine (steps-fine c.before.before.before.before)),
+  (or_clear (list_short c.args.model.now c.args.list.now) _ (enough c.before.before.before.before.before.before)).1,
+)
 
 list-rules-requires : tie.Need-list_rules-requires
 unfolding list_short

@@ -1,10 +1,9 @@
 -- `holding::holds_passed` meets its contract: room for the index, the trace's faults, the fact, then the run.
 use mathlib.Core.Path.{◌≡◌, sym, ap, ◌∙◌}
-use mathlib.Core.Bool.{true, false}
+use mathlib.Core.Bool.{false}
 use mathlib.Core.Option.{none}
 use native.Mathlib.Omega.{arith}
 use borrow.Author.Tests.{le-leb, lt-leb}
-use lib.Dec.{leb}
 use lib.ListN.{length}
 use Rattle.meaning.specs.Model.{aims}
 use Rattle.files.specs.Files.{model_of_lem, steps_fault}
@@ -29,12 +28,12 @@ lent s = record { state = s.args.state.now; table = s.args.table.now; names = s.
 
 -- past the first test there is room for the index
 enough : (c : tie.Else-no_places)
-    →    no_places_lem c.args.model.now c.args.index.now ≡ false
+    → no_places_lem c.args.model.now c.args.index.now ≡ false
 enough c = sym c.no_places.ensures ∙ c.if-no_places.false
 
 -- the trace was judged for the model's own goals and rules
 judged : (c : tie.After-judge_steps)
-    →    let M = model_of_lem c.args.model.now in
+    → let M = model_of_lem c.args.model.now in
     c.judge_steps.result
     ≡ paired (steps_fault (length (aims M)) (length M.rules) c.args.trace.now) (counts_of c.args.model.now)
 judged c =
@@ -42,7 +41,7 @@ judged c =
 
 -- the trace has no fault
 steps-fine : (c : tie.In-Fine)
-    →    let M = model_of_lem c.args.model.now in
+    → let M = model_of_lem c.args.model.now in
     steps_fault (length (aims M)) (length M.rules) c.args.trace.now ≡ none
 steps-fine c = (paired-fine _ _ _ (judged c.before) c.in-Fine.is).0
 

@@ -25,13 +25,12 @@ slice-aggregate-reach : tie.Need-slice_bounds-reach-end
 slice-aggregate-reach c = search rules
 
 reach-requires : tie.Need-reach-reached-requires
-reach-requires c κs =
- (
-      c.requires.0,
-      c.goal_codes-codes.ensures,
-      keeps_zeros (aimed c.args.model.now c.args.trace.now),
-      indexed c.requires.1 c.requires.2,
-    )
+reach-requires c κs = (
+  c.requires.0,
+  c.goal_codes-codes.ensures,
+  keeps_zeros (aimed c.args.model.now c.args.trace.now),
+  indexed c.requires.1 c.requires.2,
+)
 
 enum-known-stop : tie.Need-enum_known-stop
 enum-known-stop c = search rules
@@ -47,13 +46,12 @@ abbrev last : tie.In-Nowhere → tie.After-reach-reached
 last c = c.before.before.before.before.before.before.before.before
 
 close-worked-requires : tie.Need-close_worked-worked-requires
-close-worked-requires c κs =
- (
-      pair_shape _ _ c.requires.0.fine,
-      omega (arith, c.reach-reached.ensures.as_long, c.requires.0.entries),
-      c.requires.1,
-      c.requires.2,
-    )
+close-worked-requires c κs = (
+  pair_shape _ _ c.requires.0.fine,
+  omega (arith, c.reach-reached.ensures.as_long, c.requires.0.entries),
+  c.requires.1,
+  c.requires.2,
+)
 
 abbrev told : tie.After-close_worked-worked → tie.In-Nowhere
 told c = c.before.before

@@ -7,7 +7,6 @@ use lib.ListN.{length, get_or}
 use Rattle.records.specs.Words.{words}
 use Rattle.records.proofs.Words.{words-index, length-words}
 use Rattle.lists.proofs.Sorted.{Between, between_start, found, not_found, after, before}
-use borrow.Author.Rules.{rules}
 use Rattle.lists.proofs.has.Statement.{statement}
 use Rattle.lists.proofs.has.Tie as tie
 

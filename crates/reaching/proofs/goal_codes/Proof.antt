@@ -15,12 +15,11 @@ goal-of-requires c κs =
     (pair_fits _ _ c.requires, omega (arith, pair_entries _ _ c.requires))
 
 formula-requires : tie.Need-formula-requires
-formula-requires c κs =
- (
-      pair_shape _ _ c.requires,
-      subst (λ g. g < length (aims (model_of_lem c.args.model.now))) (sym c.goal_of.ensures)
-          (pair_goal-known _ _ c.requires),
-    )
+formula-requires c κs = (
+  pair_shape _ _ c.requires,
+  subst (λ g. g < length (aims (model_of_lem c.args.model.now))) (sym c.goal_of.ensures)
+      (pair_goal-known _ _ c.requires),
+)
 
 returns : tie.Need-returns
 returns c =

@@ -35,13 +35,12 @@ names-requires : tie.Need-names-requires
 names-requires c κs = pair_shape _ _ c.requires.0.fine
 
 begin-requires : tie.Need-begin-requires
-begin-requires c κs =
- (
-      subst Known (sym c.section.ensures) (initial-known _ (pair_shape _ _ c.requires.0.fine)),
-      c.names.ensures.1,
-      c.requires.0.room,
-      c.requires.0.names,
-    )
+begin-requires c κs = (
+  subst Known (sym c.section.ensures) (initial-known _ (pair_shape _ _ c.requires.0.fine)),
+  c.names.ensures.1,
+  c.requires.0.room,
+  c.requires.0.names,
+)
 
 search-requires : tie.Need-search-requires
 unfolding model_of_lem meant.start

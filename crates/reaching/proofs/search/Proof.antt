@@ -125,14 +125,13 @@ advance-requires : tie.Need-advance-requires Inv-loop μ-loop Inv-search μ-sear
 advance-requires c κs = table-long c.before.before.before.before
 
 apply-requires : tie.Need-apply-requires Inv-loop μ-loop Inv-search μ-search
-apply-requires c κs =
- (
-      known-A c.before.before,
-      rw c.section-persistent.ensures (persistent-ascending (model c.before.before.before.before.before.before.before.before.before.before.before.before.before.before.before.before.before.before.before.before) (shape c.before.before.before.before.before.before.before.before.before.before.before.before.before.before.before.before.before.before.before.before)),
-      c.made-made.ensures.1,
-      room c.before.before.before.before.before.before.before.before.before.before.before.before.before.before.before.before.before.before.before.before,
-      names-room c.before.before.before.before.before.before.before.before.before.before.before.before.before.before.before.before.before.before.before.before,
-    )
+apply-requires c κs = (
+  known-A c.before.before,
+  rw c.section-persistent.ensures (persistent-ascending (model c.before.before.before.before.before.before.before.before.before.before.before.before.before.before.before.before.before.before.before.before) (shape c.before.before.before.before.before.before.before.before.before.before.before.before.before.before.before.before.before.before.before.before)),
+  c.made-made.ensures.1,
+  room c.before.before.before.before.before.before.before.before.before.before.before.before.before.before.before.before.before.before.before.before,
+  names-room c.before.before.before.before.before.before.before.before.before.before.before.before.before.before.before.before.before.before.before.before,
+)
 
 add-fired : tie.Need-overflow_add-fired-in-search Inv-loop μ-loop Inv-search μ-search
 add-fired c =

@@ -1,5 +1,4 @@
 -- `records::beyond` meets its contract: the bound is that of the kind.
-use Rattle.std.proofs.Common.{rules}
 use Rattle.records.specs.Marking.{before}
 use Rattle.records.proofs.beyond.Goals as goal
 use Rattle.records.proofs.beyond.Goals.{in-Clause, in-Rule, in-Maker, in-Goal, in-Formula}

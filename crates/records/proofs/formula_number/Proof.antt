@@ -7,8 +7,8 @@ use native.Mathlib.Omega.{arith}
 use lib.Dec.{leb, ltb}
 use lib.ListN.{length, take, drop}
 use borrow.Author.Rules.{rules}
-use borrow.Author.Tests.{eqb-true, eq-eqb, ne_eqb, not-false}
-use Rattle.records.specs.Words.{word, words, odd}
+use borrow.Author.Tests.{eqb-true, eq-eqb, ne_eqb}
+use Rattle.records.specs.Words.{word, odd}
 use Rattle.sets.specs.Sets.{any}
 use Rattle.records.specs.Records.{given, whole, most, codes_in, judge_formula}
 use Rattle.records.specs.Answers.{code}

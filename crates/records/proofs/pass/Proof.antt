@@ -3,7 +3,7 @@ use mathlib.Core.Path.{◌∙◌}
 use native.Mathlib.Omega.{arith}
 use borrow.Author.Tests.{lt-ltb, le-ltb}
 use borrow.Author.Rules.{rules}
-use Rattle.records.specs.Above.{bits, bits_of, after}
+use Rattle.records.specs.Above.{bits_of, after}
 use Rattle.records.proofs.pass.Statement.{statement}
 use Rattle.records.proofs.pass.Tie as tie
 

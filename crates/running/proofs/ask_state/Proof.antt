@@ -60,7 +60,7 @@ module _ (c : tie.After-record-goal) where
 
 -- the first unmet condition of the attack state, as the table shows
 unmet-is : (c : tie.After-first_unmet)
-    →    unmet_in c.first_unmet.result
+    → unmet_in c.first_unmet.result
     ≡ unmet (numbered c.args.table.now) (names_in c.args.names.now)
     (conditions (named c.before.before.before.before).P (named c.before.before.before.before).N [])
 unfolding words
@@ -88,12 +88,11 @@ slice-aggregate-first-unmet : tie.Need-slice_bounds-first_unmet-end
 slice-aggregate-first-unmet c = search rules
 
 first-unmet-requires : tie.Need-first_unmet-requires
-first-unmet-requires c κs =
- (
-      known-list c.before.before 0 (lit< tt) c.list_of-p.ensures,
-      known-list c.before.before 1 (lit< tt) c.list_of-n.ensures,
-      c.requires.1,
-    )
+first-unmet-requires c κs = (
+  known-list c.before.before 0 (lit< tt) c.list_of-p.ensures,
+  known-list c.before.before 1 (lit< tt) c.list_of-n.ensures,
+  c.requires.1,
+)
 
 enum_told : tie.Need-enum_told-1
 enum_told c = search rules

@@ -26,12 +26,11 @@ close-judged-requires c κs =
     (pair_shape _ _ c.requires.0.fine, c.requires.0.entries, c.requires.3)
 
 ask-requires : tie.Need-ask-requires
-ask-requires c κs =
- (
-      c.requires.0.fine,
-      omega (arith, c.close_judged-rounds.ensures.filled.as_long, c.requires.0.entries),
-      c.requires.2,
-    )
+ask-requires c κs = (
+  c.requires.0.fine,
+  omega (arith, c.close_judged-rounds.ensures.filled.as_long, c.requires.0.entries),
+  c.requires.2,
+)
 
 add-t24 : tie.Need-overflow_add-result
 add-t24 c =

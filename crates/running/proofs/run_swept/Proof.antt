@@ -33,13 +33,12 @@ slice-aggregate-reach : tie.Need-slice_bounds-reach-end
 slice-aggregate-reach c = search rules
 
 reach-requires : tie.Need-reach-reached-requires
-reach-requires c κs =
- (
-      c.requires,
-      c.goal_codes-codes.ensures,
-      keeps_zeros (aimed c.args.model.now c.args.trace.now),
-      sweeps refl,
-    )
+reach-requires c κs = (
+  c.requires,
+  c.goal_codes-codes.ensures,
+  keeps_zeros (aimed c.args.model.now c.args.trace.now),
+  sweeps refl,
+)
 
 slice-aggregate-conclude : tie.Need-slice_bounds-conclude-end
 slice-aggregate-conclude c = search rules

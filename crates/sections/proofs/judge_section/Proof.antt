@@ -34,7 +34,7 @@ fault c =
 
 -- what was found is what is at fault
 read_is : (c : tie.After-read)
-    →    c.read.result ≡ found (fault c.before.before.before) (entries c.args.role (bytes c.before.before.before))
+    → c.read.result ≡ found (fault c.before.before.before) (entries c.args.role (bytes c.before.before.before))
 read_is c =
     rw (ended-bytes _ _ _ (ended c.before.before.before), c.version_of.ensures) at c.read.ensures
 

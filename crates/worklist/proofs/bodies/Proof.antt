@@ -1,5 +1,5 @@
 -- `worklist::bodies` meets its contract: it has been noted of the clauses before `k`.
-use Prim.Native.Nat.{ℕ, ◌+◌, ◌-◌, ◌*◌, ◌/◌, ◌≤◌, ◌<◌}
+use Prim.Native.Nat.{ℕ, ◌+◌, ◌-◌, ◌*◌, ◌≤◌, ◌<◌}
 use mathlib.Core.Path.{◌≡◌, ◌∙◌}
 use mathlib.Core.List.{List}
 use native.Mathlib.Omega.{arith}
@@ -80,7 +80,7 @@ shared-slice-read-body-2 c = omega (arith, c.loop-k-test.true)
 
 -- the body of clause k, which is not the last one, by two starts
 ended : (c : tie.In-loop-k invariant-loop decreases-loop)
-    →    get_or (starts c.before) (k c.before + 1) 0 ≡ get_or (starts c.before) (k c.before) 0 + 4 + 2 * body c.before
+    → get_or (starts c.before) (k c.before + 1) 0 ≡ get_or (starts c.before) (k c.before) 0 + 4 + 2 * body c.before
 ended c = end c.before c.loop-k-test.true
 
 sub-body : tie.Need-overflow_sub-body invariant-loop decreases-loop

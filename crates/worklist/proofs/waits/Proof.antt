@@ -1,9 +1,7 @@
 -- `worklist::waits` meets its contract.
 use Prim.Native.Nat.{◌<◌}
-use mathlib.Core.Path.{◌≡◌}
 use native.Mathlib.Omega.{arith}
 use lib.ListN.{get_or}
-use borrow.Author.Rules.{rules}
 use borrow.Author.Tests.{lt-ltb, le-ltb}
 use Rattle.worklist.specs.Arrays.{waits_for}
 use Rattle.worklist.proofs.waits.Statement.{statement}

@@ -1,5 +1,4 @@
 -- `held::made` meets its contract: versions 1 and 2 have no names, from version 3 on they are the fourth list.
-use Prim.Native.Nat.{◌≤◌}
 use mathlib.Core.Path.{◌≡◌, refl, sym, subst}
 use mathlib.Core.List.Memᴰ
 use lib.Dec.{lit<}

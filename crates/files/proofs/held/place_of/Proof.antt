@@ -53,7 +53,7 @@ module _ (c : tie.At-loop-i invariant-loop decreases-loop) where
 
 -- the number of the section at hand
 number-here : (c : tie.After-tag_of invariant-loop decreases-loop)
-    →    c.tag_of.result ≡ tag (get_or (roles (version c.before.before.before)) c.loop-i.i Formulas)
+    → c.tag_of.result ≡ tag (get_or (roles (version c.before.before.before)) c.loop-i.i Formulas)
 number-here c = c.tag_of.ensures ∙ ap tag c.role_at.ensures
 
 -- the section at hand fits

@@ -1,5 +1,4 @@
 -- `held::rule_list` meets its contract: the record is cut as the rules of the model's version are.
-use Prim.Native.Nat.{◌<◌}
 use mathlib.Core.Path.{◌≡◌, ap, ◌∙◌}
 use lib.ListN.{get_or}
 use Rattle.sections.specs.Sections.{rule_kind_lem}

@@ -2,7 +2,7 @@
 -- none, no length is left.
 use native.Mathlib.Omega.{arith}
 use mathlib.Core.Path.{◌≡◌, ◌∙◌, ap, sym}
-use mathlib.Core.Bool.{true, false, true≢false}
+use mathlib.Core.Bool.{false, true≢false}
 use Rattle.sections.specs.Sections.{payload, fits}
 use Rattle.sections.proofs.Parts.{Ended, no_end, some_end, ended-bytes}
 use Rattle.files.proofs.Roles.{section-there, section-absent, there_or_absent}
@@ -13,7 +13,7 @@ use Rattle.files.proofs.held.section.Tie as tie
 
 -- the section's length doesn't fit
 unfit : (c : tie.Then-end-eq0)
-    →    fits c.args.model.now c.place_of-at.result ≡ false
+    → fits c.args.model.now c.place_of-at.result ≡ false
 unfit c = no_end _ _ _ c.section_end-end.ensures c.if-end-eq0.true
 
 -- where the section ends

@@ -1,5 +1,4 @@
 -- `model::lacking` meets its contract: what a version lacks stands in the middle.
-use mathlib.Core.Path.{◌≡◌}
 use native.Mathlib.Nat.{add-zero}
 use native.Mathlib.Omega.{arith}
 use Rattle.files.proofs.Roles.{first_two, two_less, third_same, one_less, none_less}

@@ -75,7 +75,7 @@ add_start c = search rules
 
 -- what is known once only the names are left
 counted : (c : tie.Else-steps-gt1024)
-    →    let end = c.section_end-end.result in
+    → let end = c.section_end-end.result in
     Counted (file c.before.before.before.before.before) end (take (end - 5) (drop 5 (file c.before.before.before.before.before)))
 counted c =
     record {

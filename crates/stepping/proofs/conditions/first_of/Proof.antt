@@ -4,7 +4,6 @@ use mathlib.Core.Path.{◌≡◌, sym, ap, ◌∙◌}
 use mathlib.Core.Option.{some}
 use native.Mathlib.Omega.{arith}
 use lib.ListN.{length, get_or}
-use borrow.Author.Tests.{not-true, not-false}
 use borrow.Author.Rules.{rules}
 use Rattle.closing.specs.Closing.{numbered}
 use Rattle.stepping.specs.Conditions.{names_in, condition_of, unmet_in, of_kind_lem}
@@ -51,12 +50,11 @@ of-kind-requires : tie.Need-of_kind-c-requires invariant-loop decreases-loop
 of-kind-requires c κs = search rules
 
 meets-requires : tie.Need-meets-requires invariant-loop decreases-loop
-meets-requires c κs =
- (
-      rw (c.of_kind-c.ensures, c.word_at.ensures)
-          (list_known _ _ c.loop-i.i (omega (arith, c.loop-i-test.true)) c.requires.0),
-      c.requires.1,
-    )
+meets-requires c κs = (
+  rw (c.of_kind-c.ensures, c.word_at.ensures)
+      (list_known _ _ c.loop-i.i (omega (arith, c.loop-i-test.true)) c.requires.0),
+  c.requires.1,
+)
 
 returns : tie.Need-returns-then-not-meets invariant-loop decreases-loop
 unfolding unmet_in

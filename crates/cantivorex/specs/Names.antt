@@ -40,9 +40,9 @@ unfolding names
 name_of number = get_or names number []
 
 -- "the line as `kind` (`positive` or `negative`) .. (`none` where there is no value)", from kind 0 on
-unfoldable pub kind_name_lem : ℕ → List ℕ
+unfoldable pub kind_name : ℕ → List ℕ
 unfolding ascii
-kind_name_lem kind = get_or (ascii "none" ∷ ascii "positive" ∷ ascii "negative" ∷ []) kind (ascii "none")
+kind_name kind = get_or (ascii "none" ∷ ascii "positive" ∷ ascii "negative" ∷ []) kind (ascii "none")
 
 -- the first bytes of eight, so many of them, are the word
 pub record Spells (bytes : List ℕ) (size : ℕ) (word : List ℕ) : Type 0 where

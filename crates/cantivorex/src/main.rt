@@ -6,7 +6,7 @@
 ghost use Rattle.std.specs.Prelude.{◌≡◌, ◌<◌, ◌≤◌, length, take, IfOk, IfSome};
 ghost use Rattle.std.specs.Io.KnownBytes.{Consumes, IsAtEnd};
 ghost use Rattle.cantivorex.specs.Loading.{IsPrefixLen};
-ghost use Rattle.cantivorex.specs.Names.{name_of, kind_name, Spells};
+ghost use Rattle.cantivorex.specs.Names.{name_of_kind, name_of_number, Spells};
 
 use running::Verdict;
 use std::io::{Cursor, ErrorKind, Read, Write};
@@ -86,7 +86,7 @@ struct Word {
 
 // The verdict's name in document 01's table, with those of document 02.
 fn name_of(number: u8) -> Word
-    ensures { Spells result.bytes result.size (name_of number) }
+    ensures { Spells result.bytes result.size (name_of_number number) }
 {
     match number {
         0 => Word {
@@ -154,7 +154,7 @@ fn name_of(number: u8) -> Word
 
 // The kind of the unmet condition, `none` where there is no value.
 fn kind_name(kind: u8) -> Word
-    ensures { Spells result.bytes result.size (kind_name kind) }
+    ensures { Spells result.bytes result.size (name_of_kind kind) }
 {
     match kind {
         1 => Word {

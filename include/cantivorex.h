@@ -1,4 +1,4 @@
-/* The trace checker for C. Link with libexports.a (`rt staticlib exports` writes it to target/staticlib).
+/* The trace checker for C. Link with libexports.a (`bin/library` writes it to target/staticlib).
  *
  * Everything is lent: the library keeps no pointer, frees nothing and allocates nothing, and each call stands by
  * itself, so that calls on different buffers may run at the same time. A file is any bytes at all; nothing in one can

@@ -1248,10 +1248,10 @@ test_rights() {
 # A copy of bin/ without the program, and builders that put it there or fail.
 test_building() {
     local copy=$tmp/copy
-    mkdir -p "$copy/tools" "$copy/crates/one/src" "$copy/command/src" "$copy/target/staticlib"
+    mkdir -p "$copy/tools" "$copy/crates/one/src" "$copy/crates/exports/src" "$copy/command/src"
     cp -R "$root/bin" "$copy/bin"
     ln -s "$copy/bin/cantivorex" "$tmp/elsewhere"
-    stub rt ': >target/staticlib/libexports.a'
+    stub rt 'mkdir -p out && : >out/libexports.a'
     stub cargo "sleep 0.5; mkdir -p command/target/release && cp '$program' command/target/release/"
     command=$tmp/elsewhere PATH=$copy/tools:$PATH
     ("$command" "$desk" "$root/samples/A.trace" >"$tmp/first" 2>"$tmp/first.err") &
@@ -1262,7 +1262,7 @@ test_building() {
     same 'two first runs at once: one builds, one waits' \
         $'cantivorex: building, once, some minutes\ncantivorex: waiting for another build' \
         "$(printf '%s\n' "$err" "$(<"$tmp/first.err")" | sort)"
-    same 'what is built' $'cargo build\nrt staticlib' "$(sort "$copy/built")"
+    same 'what is built' $'cargo build\nrt lib' "$(sort "$copy/built")"
     try "$desk" "$root/samples/A.trace"
     same 'and then it is taken as it is' "$line" "$out$err"
     sleep 0.01

@@ -1,10 +1,10 @@
 #!/usr/bin/env bash
-# Tests document 01's program, target/bin/cantivorex, as it is run: on case.model and case.trace of its folder. The
-# expected lines are documents 01's and 02's, written here by hand. Ends in 'N passed, M failed', and exits non-zero
-# unless all passed.
+# Tests document 01's program as it is run: on case.model and case.trace of its folder. `rt ci` leaves it built, and so
+# does `rt run` in crates/cantivorex. The expected lines are documents 01's and 02's, written here by hand. Ends in
+# 'N passed, M failed', and exits non-zero unless all passed.
 set -u
 . "$(dirname "${BASH_SOURCE[0]}")/checks.sh"
-program=$root/target/bin/cantivorex
+program=$root/crates/cantivorex/out/cantivorex
 
 # ask: runs the program in the folder $tmp/case; what it printed is in out, its messages in err.
 ask() {

@@ -53,8 +53,8 @@ fn line(folder: &Path, program: &Path, index: usize) -> String {
 
 #[test]
 fn all_commands_have_the_line_of_document_01s_program() {
-    let program = Path::new(env!("CARGO_MANIFEST_DIR")).join("../target/bin/cantivorex");
-    assert!(program.exists(), "{} is missing: run `rt check cantivorex`", program.display());
+    let program = Path::new(env!("CARGO_MANIFEST_DIR")).join("../crates/cantivorex/out/cantivorex");
+    assert!(program.exists(), "{} is missing: run `rt run` in crates/cantivorex", program.display());
     let folder = Folder::new();
     fs::create_dir(folder.0.join("case")).expect("a folder");
     for index in 0..PAIRS {

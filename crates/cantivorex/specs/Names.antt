@@ -35,14 +35,14 @@ names =
     ∷ []
 
 -- the name of a number
-unfoldable pub name_of : ℕ → List ℕ
+unfoldable pub name_of_number : ℕ → List ℕ
 unfolding names
-name_of number = get_or names number []
+name_of_number number = get_or names number []
 
 -- "the line as `kind` (`positive` or `negative`) .. (`none` where there is no value)", from kind 0 on
-unfoldable pub kind_name_lem : ℕ → List ℕ
+unfoldable pub name_of_kind : ℕ → List ℕ
 unfolding ascii
-kind_name_lem kind = get_or (ascii "none" ∷ ascii "positive" ∷ ascii "negative" ∷ []) kind (ascii "none")
+name_of_kind kind = get_or (ascii "none" ∷ ascii "positive" ∷ ascii "negative" ∷ []) kind (ascii "none")
 
 -- the first bytes of eight, so many of them, are the word
 pub record Spells (bytes : List ℕ) (size : ℕ) (word : List ℕ) : Type 0 where

@@ -4,77 +4,80 @@
 
 #![tactic(auto)]
 
-ghost use Rattle.std.specs.Prelude.{◌≡◌, ◌≤◌, length};
-ghost use Rattle.io.specs.Counts.{IsPrefixLen};
-ghost use Rattle.cantivorex.specs.Names.{name_of, kind_name_lem, Spells};
+ghost use Rattle.std.specs.Prelude.{◌≡◌, ◌<◌, ◌≤◌, length, take, IfOk, IfSome};
+ghost use Rattle.std.specs.Io.KnownBytes.{Consumes, IsAtEnd};
+ghost use Rattle.cantivorex.specs.Loading.{IsPrefixLen};
+ghost use Rattle.cantivorex.specs.Names.{name_of_kind, name_of_number, Spells};
 
-use libc::{ENOENT, STDOUT_FILENO};
 use running::Verdict;
+use std::io::{Cursor, ErrorKind, Read, Write};
+use std::rt::Files;
+use std::{fs, io, str};
 
-// A file's bytes at the start of a buffer: how many, and whether the file was read as far as the buffer goes.
-#[derive(Clone, Copy)]
-struct Loaded {
-    is_read: bool,
-    size: usize,
-}
-
-// Fills the buffer from a descriptor until it is full or the file ends.
-fn fill(fd: i32, buffer: &mut [u8]) -> Loaded
-    ensures { IsPrefixLen result.size buffer.new }
+// Fills the buffer from a reader until it is full or the reader ends, and returns how many bytes that took: they are
+// the reader's next, and with fewer than the buffer has room for none is left.
+fn fill<R: Read>(reader: &mut R, buffer: &mut [u8]) -> io::Result<usize>
+    ensures within { IfOk result (λ n. IsPrefixLen n buffer.new) }
+    ensures bytes { IfOk result (λ n.
+        Consumes (R.remaining reader.old) (R.remaining reader.new) (take n buffer.new)) }
+    ensures end { IfOk result (λ n. n < length buffer.new → IsAtEnd (R.remaining reader.new)) }
 {
     let mut at = 0;
     while at < buffer.len() {
-        let rest = &mut buffer[at..];
-        let got = libc::read(fd, rest);
-        if got < 0 {
-            return Loaded {
-                is_read: false,
-                size: 0,
-            };
-        }
-        let n = io::count(got, rest);
+        let n = reader.read(&mut buffer[at..])?;
         if n == 0 {
-            break;
+            return Ok(at);
         }
         at += n;
     }
-    Loaded {
-        is_read: true,
-        size: at,
-    }
+    Ok(at)
 }
 
 // Reads the file into the buffer, or says on standard error why it can't.
-fn load(path: &[u8], buffer: &mut [u8]) -> Loaded
-    ensures { IsPrefixLen result.size buffer.new }
+fn load<R: Files + Eprint>(rt: &R, path: &str, buffer: &mut [u8]) -> Option<usize>
+    ensures { IfSome result (λ n. IsPrefixLen n buffer.new) }
 {
-    let fd = os::open_read(path);
-    if fd < 0 {
-        if os::errno() == ENOENT {
-            return Loaded {
-                is_read: true,
-                size: 0,
-            };
+    match fs::open(rt, path) {
+        Ok(mut file) => match fill(&mut file, buffer) {
+            Ok(n) => Some(n),
+            Err(e) => {
+                tell(rt, path, e);
+                None
+            }
+        },
+        Err(e) if e.kind() == ErrorKind::NotFound => Some(0),
+        Err(e) => {
+            tell(rt, path, e);
+            None
         }
-        os::fail(path);
-        return Loaded {
-            is_read: false,
-            size: 0,
-        };
     }
-    let loaded = fill(fd, buffer);
-    if !loaded.is_read {
-        os::fail(path);
-    }
-    libc::close(fd);
-    loaded
 }
 
-// A word of the line and the number after it. This and the other parts of the line answer whether they were written.
-fn print_value(word: &[u8], n: usize) -> bool {
-    io::write_all(STDOUT_FILENO, word) && io::print_decimal(STDOUT_FILENO, n as u64)
+// Says on standard error what failed, and why: the system's words for it, without the number that std puts behind them.
+fn tell(rt: &impl Eprint, what: &str, error: io::Error) {
+    let mut text = Cursor::new([0u8; 128]);
+    let _ = write!(text, "{error}");
+    let size = text.position();
+    let bytes = text.into_inner();
+    let whole = text_of(&bytes, size);
+    let reason = match whole.split_once(" (os error ") {
+        Some((words, _)) => words,
+        None => whole,
+    };
+    let _ = eprintln!(rt; "{what}: {reason}");
 }
 
+// The text in the first bytes of a buffer, so many of them.
+fn text_of(bytes: &[u8], size: u64) -> &str {
+    let size = size.min(bytes.len() as u64) as usize;
+    str::from_utf8(&bytes[..size]).unwrap_or("")
+}
+
+// A word of the line and the number after it.
+fn print_value(rt: &impl Print, word: &str, n: usize) -> io::Result<()> {
+    rt.print(word)?;
+    rt.print(n)
+}
 // A word of at most eight bytes.
 #[derive(Clone, Copy)]
 struct Word {
@@ -84,7 +87,7 @@ struct Word {
 
 // The verdict's name in document 01's table, with those of document 02.
 fn name_of(number: u8) -> Word
-    ensures { Spells result.bytes result.size (name_of number) }
+    ensures { Spells result.bytes result.size (name_of_number number) }
 {
     match number {
         0 => Word {
@@ -152,7 +155,7 @@ fn name_of(number: u8) -> Word
 
 // The kind of the unmet condition, `none` where there is no value.
 fn kind_name(kind: u8) -> Word
-    ensures { Spells result.bytes result.size (kind_name_lem kind) }
+    ensures { Spells result.bytes result.size (name_of_kind kind) }
 {
     match kind {
         1 => Word {
@@ -171,59 +174,61 @@ fn kind_name(kind: u8) -> Word
 }
 
 // The word's bytes, and no others of the eight.
-fn print_word(word: Word) -> bool
+fn print_word(rt: &impl Print, word: Word) -> io::Result<()>
     requires { (8 ≡ length word.bytes) × (word.size ≤ 8) }
 {
     let bytes = word.bytes;
     let size = word.size;
-    io::write_all(STDOUT_FILENO, &bytes[..size])
+    rt.write_all(&bytes[..size])
 }
 
 // A word and the number after it, or `none` where there is no value.
-fn print_some(word: &[u8], n: usize) -> bool {
+fn print_some(rt: &impl Print, word: &str, n: usize) -> io::Result<()> {
     if n == 65535 {
-        return io::write_all(STDOUT_FILENO, word) && io::write_all(STDOUT_FILENO, b"none");
+        rt.print(word)?;
+        return rt.print("none");
     }
-    print_value(word, n)
+    print_value(rt, word, n)
 }
 
-fn print_line(v: Verdict) {
-    let whole = print_word(name_of(v.number))
-        && print_value(b" step ", v.step)
-        && print_some(b" fact ", v.fact)
-        && print_value(b" rounds ", v.rounds)
-        && print_value(b" held ", v.held)
-        && io::write_all(STDOUT_FILENO, b" kind ")
-        && print_word(kind_name(v.kind))
-        && print_some(b" round ", v.round)
-        && io::write_all(STDOUT_FILENO, b"\n");
-    if !whole {
-        os::fail(b"the verdict's line");
-    }
+fn print_line(rt: &impl Print, v: Verdict) -> io::Result<()> {
+    print_word(rt, name_of(v.number))?;
+    print_value(rt, " step ", v.step)?;
+    print_some(rt, " fact ", v.fact)?;
+    print_value(rt, " rounds ", v.rounds)?;
+    print_value(rt, " held ", v.held)?;
+    rt.print(" kind ")?;
+    print_word(rt, kind_name(v.kind))?;
+    print_some(rt, " round ", v.round)?;
+    rt.print("\n")
 }
 
 // A file's buffer has one byte more than its bound, so that a file over the bound is seen to be over it. The index has
 // room for every model: a body place takes 2 of its bytes.
-fn main() {
+fn main(rt: HostRuntime) {
     let mut model = [0u8; 65537];
     let mut trace = [0u8; 4097];
-    let m = load(b"case.model", &mut model);
-    let t = load(b"case.trace", &mut trace);
-    if !m.is_read || !t.is_read {
+    let m = load(&rt, "case.model", &mut model);
+    let t = load(&rt, "case.trace", &mut trace);
+    let Some(m) = m else {
         return;
-    }
-    let model_size = m.size;
-    let trace_size = t.size;
+    };
+    let Some(t) = t else {
+        return;
+    };
     let mut state = [0u8; 512];
     let mut table = [0u16; 4096];
     let mut names = [0u8; 128];
     let mut index = [0u16; 32768];
-    print_line(checking::check_indexed(
-        &model[..model_size],
-        &trace[..trace_size],
+    let verdict = checking::check_indexed(
+        &model[..m],
+        &trace[..t],
         &mut state,
         &mut table,
         &mut names,
         &mut index,
-    ));
+    );
+    if let Err(e) = print_line(&rt, verdict) {
+        tell(&rt, "the verdict's line", e);
+    }
 }

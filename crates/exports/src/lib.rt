@@ -48,8 +48,8 @@ pub extern "C" fn cantivorex_check(
     out: &mut [u64],
 ) -> u8
     ensures { ChecksOut (shorter out.old 10) model.now trace.now
-        (record { state = state.entry.now; table = table.old; names = names.old })
-        (record { state = state.exit.now; table = table.new; names = names.new })
+        (record { state = state.old; table = table.old; names = names.old })
+        (record { state = state.new; table = table.new; names = names.new })
         out.old out.new result }
 {
     if out.len() < VALUES {
@@ -72,8 +72,8 @@ pub extern "C" fn cantivorex_check_indexed(
     out: &mut [u64],
 ) -> u8
     ensures { ChecksIndexedOut (shorter out.old 10) model.now trace.now
-        (record { state = state.entry.now; table = table.old; names = names.old })
-        (record { state = state.exit.now; table = table.new; names = names.new })
+        (record { state = state.old; table = table.old; names = names.old })
+        (record { state = state.new; table = table.new; names = names.new })
         index.old index.new out.old out.new result }
 {
     if out.len() < VALUES {
@@ -149,8 +149,8 @@ pub extern "C" fn cantivorex_rules(
     out: &mut [u64],
 ) -> u8
     ensures { RulesOut (shorter out.old 1) model.now trace.now
-        (record { state = state.entry.now; table = table.old; names = names.old })
-        (record { state = state.exit.now; table = table.new; names = names.new })
+        (record { state = state.old; table = table.old; names = names.old })
+        (record { state = state.new; table = table.new; names = names.new })
         index.old index.new list.old list.new out.old
         out.new result }
 {
@@ -181,8 +181,8 @@ pub extern "C" fn cantivorex_holds(
     out: &mut [u64],
 ) -> u8
     ensures { HoldsOut (shorter out.old 2) model.now trace.now fact
-        (record { state = state.entry.now; table = table.old; names = names.old })
-        (record { state = state.exit.now; table = table.new; names = names.new })
+        (record { state = state.old; table = table.old; names = names.old })
+        (record { state = state.new; table = table.new; names = names.new })
         index.old index.new out.old out.new result }
 {
     if out.len() < 2 {

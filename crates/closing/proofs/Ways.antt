@@ -7,7 +7,7 @@ use mathlib.Core.Option.{none}
 use native.Mathlib.Omega.{arith}
 use lib.ListN.{length, get_or}
 use Rattle.facts.specs.Facts.{members}
-use Rattle.facts.proofs.Laws.{beyond, byte-none}
+use Rattle.facts.proofs.Laws.{beyond}
 use Rattle.sections.specs.declared.Role.TheVariants.{Clauses}
 use Rattle.files.specs.Files.{section_of, clauses_in, model_of_lem, shape_fault}
 use Rattle.worklist.specs.Working.{state_in, Placed, Listed, Workable, WorksFor, Works}
@@ -33,13 +33,12 @@ module _ (m state : List ℕ) (fine : shape_fault m ≡ none) {before begun : Li
   -- By the index the worklist can run,
   pub workable : {section index ends starts : List ℕ} → section ≡ section_of m Clauses
       → Listed (model_of_lem m).clauses index ends → Placed (section_of m Clauses) starts
-      → Workable section state begun index ends starts
+      → Workable section begun index ends starts
   unfolding model_of_lem
   workable is listed placed =
       let low = beyond 512 state in
       rw is
       (record {
-        eights = rw (state-is begun entries low) (λ i e k. byte-none 512 state i k e);
         judged = rw (state-is begun entries low) (judged-model m fine low);
         begun = begun-from begun entries low (omega (arith, start.as_long));
         listed = listed;

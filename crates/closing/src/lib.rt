@@ -196,7 +196,6 @@ pub fn close_worked(
     start(state, table);
     worklist::run(
         held::section(model, Role::Clauses),
-        state,
         table,
         index,
         ends,

@@ -8,7 +8,7 @@ use native.Mathlib.Nat.{add-zero}
 use native.Mathlib.Numerals.{add-one}
 use native.Mathlib.Omega.{arith}
 use lib.Dec.{T, eqb, ltb, eqb→eq}
-use lib.ListN.{length, get_or, set, drop, length-set, drop_of_length-le, get_or-eq_default}
+use lib.ListN.{length, get_or, set, drop, length-set, drop_of_length-le, get_or-eq_default, take}
 use lib.Seq.{take-set-le, take-suc-set, get_or-set_same, get_or-set_other, get_or-take, drop-cons, length-take-le}
 use borrow.Author.Tests.{lt-ltb, le-ltb, eq-eqb, ne_eqb}
 use Rattle.sets.specs.Sets.{Facts}
@@ -25,27 +25,25 @@ use Rattle.worklist.proofs.Seeing.{number-low, arrive-seen, arrive-fits, arrive-
 
 -- ---- the facts of the state
 
-pub gathered_start : (S : Facts) {queue : List ℕ} → length queue ≡ 4096 → Gathered S 0 0 queue
+-- Those below f wait, in order.
+pub record Gathering (table : List ℕ) (f n : ℕ) (queue : List ℕ) : Type 0 where
+  pub some : f ≤ 4096
+  pub few : n ≤ f
+  pub sized : length queue ≡ 4096
+  pub facts : take n queue ≡ stored f (state_in table)
+
+pub gathering_start : (table queue : List ℕ) → length queue ≡ 4096 → Gathering table 0 0 queue
 unfolding stored
-gathered_start S sized = record { sized = sized; few = omega arith; facts = refl }
+gathering_start table queue sized = record { some = omega arith; few = omega arith; sized = sized; facts = refl }
 
-module _ {S : Facts} {f n : ℕ} {queue : List ℕ} (g : Gathered S f n queue) where
-  -- Where the next fact is not stored, nothing changes.
-  gathered_past : S f ≡ false → Gathered S (f + 1) n queue
-  unfolding stored
-  gathered_past e = record {
-    sized = g.sized;
-    few = omega (arith, g.few);
-    facts = rw (add-one, e, append-nil) g.facts;
-  }
-
-module _ (table : List ℕ) {f n : ℕ} {queue : List ℕ} (g : Gathered (state_in table) f n queue) (h : f < 4096) where
-  -- One that is stored joins those that wait; ..
-  pub gathered_one : get_or table f 0 ≡ 0 → Gathered (state_in table) (f + 1) (n + 1) (set queue n f)
+module _ {table : List ℕ} {f n : ℕ} {queue : List ℕ} (g : Gathering table f n queue) (h : f < 4096) where
+  -- One that is stored joins them; ..
+  pub gathering_one : get_or table f 0 ≡ 0 → Gathering table (f + 1) (n + 1) (set queue n f)
   unfolding stored state_in
-  gathered_one e = record {
-    sized = rw length-set g.sized;
+  gathering_one e = record {
+    some = omega arith;
     few = omega (arith, g.few);
+    sized = rw length-set g.sized;
     facts =
         rw (
           add-one,
@@ -58,11 +56,12 @@ module _ (table : List ℕ) {f n : ℕ} {queue : List ℕ} (g : Gathered (state_
   }
 
   -- .. another leaves no trace.
-  pub gathered_none : (get_or table f 0 ≡ 0 → ⊥) → Gathered (state_in table) (f + 1) n (set queue n f)
+  pub gathering_none : (get_or table f 0 ≡ 0 → ⊥) → Gathering table (f + 1) n (set queue n f)
   unfolding stored state_in
-  gathered_none e = record {
-    sized = rw length-set g.sized;
+  gathering_none e = record {
+    some = omega arith;
     few = omega (arith, g.few);
+    sized = rw length-set g.sized;
     facts =
         rw (
           add-one,
@@ -74,16 +73,11 @@ module _ (table : List ℕ) {f n : ℕ} {queue : List ℕ} (g : Gathered (state_
         );
   }
 
--- Eight facts that are not stored are passed over.
-pub gathered_eight : {S : Facts} {f n : ℕ} {queue : List ℕ} → Gathered S f n queue
-    → ((k : ℕ) → k < 8 → S (f + k) ≡ false) → Gathered S (f + 8) n queue
-gathered_eight {S} {f} {n} {queue} g none = go 8 (omega arith)
-  where
-    go : (k : ℕ) → k ≤ 8 → Gathered S (f + k) n queue
-    go zero h = rw (add-zero f) g
-    go (suc k) h =
-        let next : f + k + 1 ≡ f + suc k = omega arith in
-        subst (λ (m : ℕ). Gathered S m n queue) next (gathered_past (go k (omega arith)) (none k (omega arith)))
+pub gathering_end : {table : List ℕ} {f n : ℕ} {queue : List ℕ} → Gathering table f n queue → 4096 ≤ f
+    → Gathered (state_in table) n queue
+gathering_end {table} {f} g h =
+    let same : f ≡ 4096 = omega (arith, g.some) in
+    record { sized = g.sized; full = omega (arith, g.few); facts = rw same at g.facts }
 
 -- ---- what clauses lack, and the heads of those with an empty body
 
@@ -130,7 +124,7 @@ pub record Opened (cs : List Clause) (S : Facts) (before : List ℕ) (k : ℕ) (
   pub beyond : drop 4096 a.table ≡ drop 4096 before
 
 module _ {cs : List Clause} {table : List ℕ} (known : Known cs (state_in table)) (b : Begun table) {n : ℕ}
-    {queue : List ℕ} (g : Gathered (state_in table) 4096 n queue) where
+    {queue : List ℕ} (g : Gathered (state_in table) n queue) where
   -- What waits is stored.
   waits-stored : (i : ℕ) → i < n → (get_or queue i 0 < 4096) × T (state_in table (get_or queue i 0))
   waits-stored i h =
@@ -138,7 +132,7 @@ module _ {cs : List Clause} {table : List ℕ} (known : Known cs (state_in table
       ap (λ (l : List ℕ). get_or l i 0) (sym g.facts) ∙ get_or-take n queue i 0 h
       in
       let long : n ≡ length (stored 4096 (state_in table)) =
-      sym (length-take-le n queue (omega (arith, g.few, g.sized))) ∙ ap length g.facts
+      sym (length-take-le n queue (omega (arith, g.full, g.sized))) ∙ ap length g.facts
       in
       rw is at
       ((stored_is 4096 (state_in table) (get_or (stored 4096 (state_in table)) i 0)).0
@@ -175,7 +169,7 @@ module _ {cs : List Clause} {table : List ℕ} (known : Known cs (state_in table
       lacks = sized;
       table = b.room;
       queue = g.sized;
-      full = g.few;
+      full = g.full;
       low = λ i h. (waits-stored i h).0;
     };
     as_long = refl;

@@ -65,11 +65,11 @@ waits_for g table queue n at = ltb at n && ltb (get_or table (get_or queue at 0)
 
 -- ---- the start
 
--- the facts of the state below f wait, in order
-pub record Gathered (S : Facts) (f n : ℕ) (queue : List ℕ) : Type 0 where
+-- the facts of the state wait, in order
+pub record Gathered (S : Facts) (n : ℕ) (queue : List ℕ) : Type 0 where
   pub sized : length queue ≡ 4096
-  pub few : n ≤ f
-  pub facts : take n queue ≡ stored f S
+  pub full : n ≤ 4096
+  pub facts : take n queue ≡ stored 4096 S
 
 -- every clause lacks the facts of its body, and none fewer than so many
 pub record Lacking (cs : List Clause) (least : ℕ) (lacks : List ℕ) : Type 0 where

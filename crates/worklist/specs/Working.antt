@@ -22,10 +22,6 @@ pub record Begun (table : List ℕ) : Type 0 where
   pub room : 4096 ≤ length table
   pub entries : (f : ℕ) → f < 4096 → get_or table f 0 ≡ cond (state_in table f) 0 65535
 
--- "fact f is the bit .. in byte f/8": a byte of the state that is 0 has none of its eight facts
-abbrev pub Eights : List ℕ → Facts → Type 0
-Eights state S = (i : ℕ) → get_or state i 0 ≡ 0 → (k : ℕ) → k < 8 → S (i * 8 + k) ≡ false
-
 -- "body facts 16"
 abbrev pub Short : List Clause → Type 0
 Short cs = (c : Clause) → c ∈ cs → length c.body ≤ 16
@@ -49,8 +45,7 @@ pub record Listed (cs : List Clause) (index ends : List ℕ) : Type 0 where
   pub bounds : (f : ℕ) → f ≤ 4096 → get_or ends f 0 ≡ length (index_below_lem f cs)
 
 -- what closing by the index asks for
-pub record Workable (section state table index ends starts : List ℕ) : Type 0 where
-  pub eights : Eights state (state_in table)
+pub record Workable (section table index ends starts : List ℕ) : Type 0 where
   pub judged : Judged section (state_in table)
   pub begun : Begun table
   pub listed : Listed (clauses_in section) index ends

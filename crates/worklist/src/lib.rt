@@ -9,7 +9,7 @@ ghost use Rattle.records.specs.declared.Kind.{Kind};
 ghost use Rattle.lists.specs.Lists.{AllCut};
 ghost use Rattle.meaning.specs.Worklist.{cross, cross_all_lem};
 ghost use Rattle.files.specs.Files.{clauses_in};
-ghost use Rattle.worklist.specs.Working.{state_in, Begun, Eights, Short, Judged, Placed, Listed};
+ghost use Rattle.worklist.specs.Working.{state_in, Begun, Short, Judged, Placed, Listed};
 ghost use Rattle.worklist.specs.Working.{Workable, WorksFor};
 ghost use Rattle.worklist.specs.Arrays.{arrays, latest_in, Does, Gathered, Lacking, Starts, Arrives};
 ghost use Rattle.worklist.specs.Arrays.{Crossable, Amid, Between, number_in, waits_for};
@@ -31,40 +31,17 @@ fn number(table: &[u16], f: usize) -> u16
     if f < 4096 { table[f] } else { OUTSIDE }
 }
 
-// Whether a byte of the state is 0, as it is where the state is shorter.
-fn empty(state: &[u8], i: usize) -> bool
-    ensures { result ≡ eqb (get_or state.now i 0) 0 }
+// The facts of the state wait, ascending; answers how many they are.
+fn gather(table: &[u16], queue: &mut [u16; 4096]) -> usize
+    requires { (4096 ≤ length table.now) × (length queue.old ≡ 4096) }
+    ensures { Gathered (state_in table.now) result queue.new }
 {
-    if i < state.len() { state[i] == 0 } else { true }
-}
-
-// Those of the next eight facts that the state has wait, too; answers how many wait.
-fn gather_byte(table: &[u16], at: usize, queue: &mut [u16; 4096], waiting: usize) -> usize
-    requires { (4096 ≤ length table.now) × (at + 8 ≤ 4096)
-        × Gathered (state_in table.now) at waiting queue.old }
-    ensures { Gathered (state_in table.now) (at + 8) result queue.new }
-{
-    let mut n = waiting;
-    for f in at..at + 8 {
+    let mut n = 0;
+    for f in 0..4096 {
         // Written where it is none, too: the next one takes the place.
         queue[n] = f as u16;
         if table[f] == 0 {
             n += 1;
-        }
-    }
-    n
-}
-
-// The facts of the state wait, ascending; answers how many they are. Most bytes of a state have none.
-fn gather(state: &[u8], table: &[u16], queue: &mut [u16; 4096]) -> usize
-    requires { (4096 ≤ length table.now) × Eights state.now (state_in table.now)
-        × (length queue.old ≡ 4096) }
-    ensures { Gathered (state_in table.now) 4096 result queue.new }
-{
-    let mut n = 0;
-    for i in 0..512 {
-        if !empty(state, i) {
-            n = gather_byte(table, i * 8, queue, n);
         }
     }
     n
@@ -127,7 +104,7 @@ fn unasked(
 ) -> usize
     requires { Judged clauses.now (state_in table.old) × Placed clauses.now starts.now
         × Lacking (clauses_in clauses.now) 0 lacks.now
-        × Begun table.old × Gathered (state_in table.old) 4096 stored queue.old }
+        × Begun table.old × Gathered (state_in table.old) stored queue.old }
     ensures { Starts (clauses_in clauses.now) (state_in table.old) table.old
         (arrays lacks.now table.new queue.new result) }
 {
@@ -153,7 +130,7 @@ fn start(
 ) -> usize
     requires { Judged clauses.now (state_in table.old) × Placed clauses.now starts.now
         × (length lacks.old ≡ 4096) × ((k : ℕ) → get_or lacks.old k 0 ≡ 0)
-        × Begun table.old × Gathered (state_in table.old) 4096 stored queue.old }
+        × Begun table.old × Gathered (state_in table.old) stored queue.old }
     ensures { Starts (clauses_in clauses.now) (state_in table.old) table.old
         (arrays lacks.new table.new queue.new result) }
 {
@@ -284,14 +261,13 @@ fn drain(
 // or more, which is no fact, that is all rounds. The caller has built the index; there is a start for each clause.
 pub fn run(
     clauses: &[u8],
-    state: &[u8],
     table: &mut [u16],
     index: &[u16],
     ends: &[u16],
     starts: &[u16],
     asked: usize,
 ) -> Worked
-    requires { Workable clauses.now state.now table.old index.now ends.now starts.now }
+    requires { Workable clauses.now table.old index.now ends.now starts.now }
     ensures { WorksFor (clauses_in clauses.now) (state_in table.old) asked
         table.old table.new result }
 {
@@ -304,7 +280,7 @@ pub fn run(
     }
     let mut lacks = [0u8; 4096];
     let mut queue = [0u16; 4096];
-    let stored = gather(state, table, &mut queue);
+    let stored = gather(table, &mut queue);
     let n = start(clauses, starts, &mut lacks, table, &mut queue, stored);
     drain(
         clauses, table, index, ends, starts, &mut lacks, &mut queue, n, asked,

@@ -1,58 +1,52 @@
--- `worklist::gather` meets its contract: the facts of the first `i` bytes that the state has wait.
-use Prim.Native.Nat.{◌+◌, ◌-◌, ◌*◌, ◌≤◌}
-use mathlib.Core.Path.{◌≡◌, sym, ◌∙◌}
+-- `worklist::gather` meets its contract: the facts of the state below `f` wait.
+use Prim.Native.Nat.{◌-◌}
 use native.Mathlib.Omega.{arith}
 use mathlib.Core.Logic.{⊎_elim}
-use borrow.Author.Tests.{eqb-true}
-use Rattle.worklist.specs.Working.{state_in}
-use Rattle.worklist.specs.Arrays.{Gathered}
-use Rattle.worklist.proofs.Starting.{gathered_start, gathered_eight}
+use Rattle.worklist.proofs.Starting.{Gathering, gathering_start, gathering_one, gathering_none, gathering_end}
 use Rattle.worklist.proofs.gather.Statement.{statement}
 use Rattle.worklist.proofs.gather.Tie as tie
 
-abbrev invariant-loop : tie.invariant-loop-i
-invariant-loop state table queue₀ n₀ i₀ queue n i = (i ≤ 512) × Gathered (state_in table) (i * 8) n queue
+abbrev invariant-loop : tie.invariant-loop-f
+invariant-loop table queue₀ n₀ f₀ queue n f = Gathering table f n queue
 
-abbrev decreases-loop : tie.decreases-loop-i
-decreases-loop state table queue₀ n₀ i₀ queue n i = 512 - i
+abbrev decreases-loop : tie.decreases-loop-f
+decreases-loop table queue₀ n₀ f₀ queue n f = 4096 - f
 
-loop-holds : tie.Need-loop-i-init invariant-loop decreases-loop
-loop-holds c = (omega arith, gathered_start _ c.requires.2)
+loop-holds : tie.Need-loop-f-init invariant-loop decreases-loop
+loop-holds c = gathering_start _ _ c.requires.1
 
-empty-requires : tie.Need-empty-requires invariant-loop decreases-loop
-empty-requires c κs = tt
+cast-queue : tie.Need-overflow_cast-queue invariant-loop decreases-loop
+cast-queue c = omega arith
 
-mul-gather-byte : tie.Need-overflow_mul-i invariant-loop decreases-loop
-mul-gather-byte c = omega arith
+mul-queue : tie.Need-offset_bounds-queue-n invariant-loop decreases-loop
+mul-queue c = omega arith
 
-gather-byte-requires : tie.Need-gather_byte-n-requires invariant-loop decreases-loop
-gather-byte-requires c κs =
-    (c.requires.0, omega (arith, c.loop-i-test.true), c.loop-i.invariant.1)
+element-write-queue : tie.Need-bounds-queue-n invariant-loop decreases-loop
+element-write-queue c = omega arith
 
-add-i : tie.Need-overflow_step-i invariant-loop decreases-loop
-add-i c = omega (arith, c.loop-i-test.true)
+mul-if1 : tie.Need-offset_bounds-table-f invariant-loop decreases-loop
+mul-if1 c = omega arith
 
-loop-less : tie.Need-loop-i-smaller invariant-loop decreases-loop
-loop-less c = omega (arith, c.loop-i-test.true)
+shared-slice-read-if1 : tie.Need-bounds-table-f invariant-loop decreases-loop
+shared-slice-read-if1 c = omega arith
 
-loop-again : tie.Need-loop-i-preserved invariant-loop decreases-loop
+add-n : tie.Need-overflow_add-n invariant-loop decreases-loop
+add-n c = omega arith
+
+add-f : tie.Need-overflow_step-f invariant-loop decreases-loop
+add-f c = omega arith
+
+loop-less : tie.Need-loop-f-smaller invariant-loop decreases-loop
+loop-less c = omega arith
+
+loop-again : tie.Need-loop-f-preserved invariant-loop decreases-loop
 loop-again c =
-    let i = c.loop-i.i in
-    let inv = c.loop-i.invariant in
-    let next : i * 8 + 8 ≡ (i + 1) * 8 = omega arith in (
-      omega (arith, c.loop-i-test.true),
-      rw (← next)
-          (⊎_elim (λ w. rw (w.queue-is, w.n-is) w.gather_byte-n.ensures)
-          (λ w.
-          let byte = sym c.empty.ensures ∙ w.if-not-empty.false in
-          rw (w.queue-is, w.n-is) (gathered_eight inv.1 (c.requires.1 i (eqb-true _ _ byte)))) c.if-not-empty.branch-raw),
-    )
+    let gathering = c.loop-f.invariant in
+    ⊎_elim (λ w. rw w.n-is (gathering_one gathering (omega arith) w.if-table-f-eq0.true))
+    (λ w. rw w.n-is (gathering_none gathering (omega arith) w.if-table-f-eq0.false)) c.if-table-f-eq0.branch-raw
 
 returns : tie.Need-returns invariant-loop decreases-loop
-returns c =
-    let at = c.loop-i in
-    let all : at.i * 8 ≡ 4096 = omega (arith, at.invariant.0, c.loop-i-test.false) in
-    rw (← all) at.invariant.1
+returns c = gathering_end c.loop-f.invariant (omega arith)
 
 pub gather_spec : {M : Type 1} → statement M
 gather_spec =
@@ -61,10 +55,13 @@ gather_spec =
     invariant-loop
     decreases-loop
     loop-holds
-    empty-requires
-    mul-gather-byte
-    gather-byte-requires
-    add-i
+    cast-queue
+    mul-queue
+    element-write-queue
+    mul-if1
+    shared-slice-read-if1
+    add-n
+    add-f
     loop-less
     loop-again
     returns)

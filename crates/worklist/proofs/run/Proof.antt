@@ -7,7 +7,7 @@ use Rattle.worklist.proofs.run.Tie as tie
 
 -- Once the fact's number is asked for: the function's entry.
 abbrev asked : tie.After-number → tie.Start
-asked c = c.before.before.before.before.before.before.before
+asked c = c.before.before.before.before.before.before
 
 number-requires : tie.Need-number-requires
 number-requires c κs = c.requires.begun.room
@@ -22,10 +22,10 @@ returns c =
 
 -- Otherwise, once the queue is lent.
 abbrev entry : tie.After-queue-1 → tie.Start
-entry c = c.before.before.before.before.before.before.before.before.before
+entry c = c.before.before.before.before.before.before.before.before
 
 gather-requires : tie.Need-gather-stored-requires
-gather-requires c κs = let pre = c.requires in (pre.begun.room, pre.eights, refl)
+gather-requires c κs = let pre = c.requires in (pre.begun.room, refl)
 
 start-requires : tie.Need-start-n-requires
 start-requires c κs =

@@ -1,0 +1,13 @@
+-- `cantivorex_check_indexed` meets its contract: the room for the verdict, then the verdict.
+use Rattle.std.proofs.Common.{arith}
+use Rattle.exports.proofs.Answers.{no_verdict-indexed, some-verdict-indexed}
+use Rattle.exports.proofs.cantivorex_check_indexed.Goals as goal
+
+pub returns-then-out-lt-VALUES : goal.returns-then-out-lt-VALUES
+returns-then-out-lt-VALUES c =
+    no_verdict-indexed c.args.model.now c.args.trace.now _ c.args.index.now c.args.out.now (omega arith)
+
+pub returns : goal.returns
+returns c =
+    some-verdict-indexed c.args.model.now c.args.trace.now _ _ _ _ c.args.out.now _ _ (omega arith)
+    c.check_indexed-v.ensures c.put.ensures

@@ -1,0 +1,18 @@
+-- `cantivorex_close` meets its contract: the room for the rounds, then closing's answer.
+use Rattle.std.proofs.Common.{arith}
+use Rattle.exports.proofs.Answers.{no_rounds, some-rounds, refused}
+use Rattle.exports.proofs.cantivorex_close.Goals as goal
+
+pub returns-then-out-lt1 : goal.returns-then-out-lt1
+returns-then-out-lt1 c =
+    no_rounds c.args.model.now c.args.state.now c.args.table.now c.args.out.now (omega arith)
+
+pub returns-in-Rounds : goal.returns-in-Rounds
+returns-in-Rounds c =
+    some-rounds c.args.model.now c.args.state.now c.args.table.now _ c.args.out.now _ _ (omega arith)
+    c.close.ensures c.in-Rounds.is
+
+pub returns-in-Refused : goal.returns-in-Refused
+returns-in-Refused c =
+    refused c.args.model.now c.args.state.now c.args.table.now _ c.args.out.now _ _ (omega arith)
+    c.close.ensures c.in-Refused.is

@@ -1,0 +1,18 @@
+-- `cantivorex_close_indexed` meets its contract: the room for rounds and crossings, then closing's answer.
+use Rattle.std.proofs.Common.{arith}
+use Rattle.exports.proofs.Answers.{no_crossings, some-crossings, crossings-refused}
+use Rattle.exports.proofs.cantivorex_close_indexed.Goals as goal
+
+pub returns-then-out-lt2 : goal.returns-then-out-lt2
+returns-then-out-lt2 c =
+    no_crossings c.args.model.now c.args.state.now c.args.table.now c.args.index.now c.args.out.now (omega arith)
+
+pub returns-in-Rounds : goal.returns-in-Rounds
+returns-in-Rounds c =
+    some-crossings c.args.model.now c.args.state.now c.args.table.now c.args.index.now _ _ c.args.out.now _ _
+    (omega arith) c.close_indexed.ensures _ c.in-Rounds.is
+
+pub returns-in-Refused : goal.returns-in-Refused
+returns-in-Refused c =
+    crossings-refused c.args.model.now c.args.state.now c.args.table.now c.args.index.now _ _ c.args.out.now _ _
+    (omega arith) c.close_indexed.ensures c.in-Refused.is

@@ -17,6 +17,8 @@ WORD = r"[^\s(){}\[\].,;:`\"«»]+"
 DEFINED = re.compile(r"(?m)^\s*((?:abbrev |unfoldable |pub |data |record |module )*)(" + WORD + r") :(?=\s)")
 FUNCTION = re.compile(r"\b(?:fn|struct|enum|const|let|mut)\s+([a-z_][a-z0-9_]*)")
 IMPORTED = re.compile(r"(?m)^(?:ghost )?use [\w.]+\.\{([^}]*)\}")
+# what the rules above don't reach: an infix name that port.py takes for std's, names of variables
+FURTHER = {"◌orElse◌": "◌or_else◌", "orElse": "or_else", "getD-in": "get_or_in", "known-notMet": "known_not_met", "so-notMet": "so_not_met", "rulesFrom": "rules_from"}
 TOKEN = re.compile(r"[A-Za-z_◌][\w'₀-₉→≡≤<≢⊎◌-]*")
 
 
@@ -77,6 +79,7 @@ def main():
             turned[n] = to
             if n.startswith("◌"):
                 turned[n.strip("◌")] = to.strip("◌")
+    turned.update(FURTHER)
     # where a definition and a lemma or a function of src/ would have one name, the latter of them ends in _lem
     back = collections.defaultdict(list)
     for n, to in turned.items():

@@ -1,6 +1,6 @@
 -- Closing by a worklist: what is lent, and what is promised (document 02, wish 5). The promise is that of the rounds;
 -- the worklist itself (Rattle.meaning.specs.Worklist) is not named in it.
-use Rattle.std.specs.Prelude.{ℕ, ◌+◌, ◌*◌, ◌≤◌, ◌<◌, ◌≡◌, false, ◌&&◌, cond, List, eqb, ltb, length, get_or, take, drop}
+use Rattle.std.specs.Prelude.{ℕ, ◌≤◌, ◌<◌, ◌≡◌, ◌&&◌, cond, List, eqb, ltb, length, get_or, take, drop}
 use Rattle.sets.specs.Sets.{Facts, ◌∈◌}
 use Rattle.meaning.specs.Model.{Clause}
 use Rattle.meaning.specs.Rounds.{rounds, closure, round_number}

@@ -78,6 +78,7 @@ fn print_value(rt: &impl Print, word: &str, n: usize) -> io::Result<()> {
     rt.print(word)?;
     rt.print(n)
 }
+
 // A word of at most eight bytes.
 #[derive(Clone, Copy)]
 struct Word {

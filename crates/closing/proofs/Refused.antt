@@ -1,10 +1,10 @@
 -- What closing refuses, and why: each refusal has its cause, and where it answers rounds no cause is there.
 use Prim.Native.Nat.{ℕ, ◌≤◌, ◌<◌}
-use mathlib.Core.Path.{◌≡◌, refl, sym, ap, subst}
+use mathlib.Core.Path.{◌≡◌, refl, sym, ap, ◌∙◌, subst}
 use mathlib.Core.Logic.{◌⊎◌, ◌↔◌, inl, inr, ⊎_elim}
 use mathlib.Core.Bool.{Bool, true, false, true≢false, ◌&&◌}
 use mathlib.Core.List.{List}
-use mathlib.Core.Option.{Option, none, some, map, none-ne-some}
+use mathlib.Core.Option.{Option, none, some, map, none-ne-some, some-injective}
 use native.Mathlib.Nat.{lt_of_lt_of_le}
 use native.Mathlib.Omega.{arith}
 use borrow.Author.Tests.{ltb-true, ltb-false, le-leb, leb-true}
@@ -20,7 +20,7 @@ use Rattle.files.specs.Files.{fact_count, model_fault, model_of_lem}
 use Rattle.causes.proofs.Causes.{alone-cause}
 use Rattle.causes.proofs.Exact.{model-right, model-number, model_exactly}
 use Rattle.meaning.specs.Rounds.{rounds}
-use Rattle.closing.specs.Closing.{no_room_lem, some_from, close_refusal, answer, Table, Closes}
+use Rattle.closing.specs.Closing.{no_room_lem, some_from, state_refusal, close_refusal, answer, Table, Closes}
 use Rattle.closing.specs.Closing.{Room, RightAlone, RefusedFor, Answerable}
 use Rattle.closing.specs.declared.Closed.{Closed}
 
@@ -73,38 +73,50 @@ module _ (m state table : List ℕ) where
       let (size, first, right) = (model_exactly m).0 e in
       record { size = size; first = first; model = right }
 
+  -- The last number is given for a bit from F on, and for nothing else.
+  state-cause : Room state table → RightAlone m → {k : ℕ} → state_refusal m state ≡ some k → RefusedFor m state table k
+  unfolding given
+  state-cause room right {k} h =
+      by-test (some_from (fact_count m) (members state))
+      (λ b.
+      let (f, low, in-set) = some_is (fact_count m) state b in
+      subst (RefusedFor m state table) (some-injective _ k (rw b at h)) (RefusedFor.fact room right f low in-set))
+      (λ b. absurd (none-ne-some k (rw b at h)))
+
+  state-fine : state_refusal m state ≡ none → some_from (fact_count m) (members state) ≡ false
+  unfolding given
+  state-fine h =
+      by-test (some_from (fact_count m) (members state)) (λ b. absurd (none-ne-some _ (sym (rw b at h)))) (λ b. b)
+
   pub refusal-cause : {k : ℕ} → close_refusal m state table ≡ some k → RefusedFor m state table k
   unfolding close_refusal given ◌or_else◌
   refusal-cause {k} h =
-      go (no_room_lem state table) refl (model_fault m) refl (some_from (fact_count m) (members state)) refl h
+      go (no_room_lem state table) refl (model_fault m) refl (state_refusal m state) refl h
     where
       go : (short : Bool) → no_room_lem state table ≡ short → (found : Option Fault) → model_fault m ≡ found
-          → (from-F : Bool) → some_from (fact_count m) (members state) ≡ from-F
-          → (given short 1 or_else map (λ f. f.number) found or_else given from-F 6) ≡ some k
-          → RefusedFor m state table k
-      go true s found e from-F b h = let is : 1 ≡ k = cc in rw (← is) (RefusedFor.room (short-is state table s))
-      go false s (some f) e from-F b h =
+          → (last : Option ℕ) → state_refusal m state ≡ last
+          → (given short 1 or_else map (λ f. f.number) found or_else last) ≡ some k → RefusedFor m state table k
+      go true s found e last b h = let is : 1 ≡ k = cc in rw (← is) (RefusedFor.room (short-is state table s))
+      go false s (some f) e last b h =
           let is : f.number ≡ k = cc in rw (← is) (fault-cause (room-is state table s) f e)
-      go false s none e true b h =
-          let is : 6 ≡ k = cc in
-          let (f, low, in-set) = some_is (fact_count m) state b in
-          rw (← is) (RefusedFor.fact (room-is state table s) (alone e) f low in-set)
-      go false s none e false b h = absurd (none-ne-some k h)
+      go false s none e last b h = state-cause (room-is state table s) (alone e) (b ∙ h)
 
   refusal-none : close_refusal m state table ≡ none → Answerable m state table
   unfolding close_refusal given ◌or_else◌
   refusal-none h =
-      go (no_room_lem state table) refl (model_fault m) refl (some_from (fact_count m) (members state)) refl h
+      go (no_room_lem state table) refl (model_fault m) refl (state_refusal m state) refl h
     where
       go : (short : Bool) → no_room_lem state table ≡ short → (found : Option Fault) → model_fault m ≡ found
-          → (from-F : Bool) → some_from (fact_count m) (members state) ≡ from-F
-          → (given short 1 or_else map (λ f. f.number) found or_else given from-F 6) ≡ none
-          → Answerable m state table
-      go true s found e from-F b h = absurd (none-ne-some 1 (sym h))
-      go false s (some f) e from-F b h = absurd (none-ne-some f.number (sym h))
-      go false s none e true b h = absurd (none-ne-some 6 (sym h))
-      go false s none e false b h =
-          record { room = room-is state table s; model = alone e; facts = none_is (fact_count m) state b }
+          → (last : Option ℕ) → state_refusal m state ≡ last
+          → (given short 1 or_else map (λ f. f.number) found or_else last) ≡ none → Answerable m state table
+      go true s found e last b h = absurd (none-ne-some 1 (sym h))
+      go false s (some f) e last b h = absurd (none-ne-some f.number (sym h))
+      go false s none e last b h =
+          record {
+            room = room-is state table s;
+            model = alone e;
+            facts = none_is (fact_count m) state (state-fine (b ∙ h));
+          }
 
 -- ---- one cause
 

@@ -2,11 +2,13 @@
 """Brings this repository's own names to Rattle's spelling: words in snake case, a dash only between two names.
 
 usage: python3 tools/spell.py          at the top of the repository, once, right after port.py
+       python3 tools/spell.py --list   only prints each name and what it becomes
 
 A name in mixed case becomes snake case (`roundNumber`: `round_number`). In a name with dashes a dash stays where it
 joins two names that are defined somewhere; before or after a plain word it becomes `_` (`any-in`: `any_in`). Types,
 modules, functions of src/, exported names, strings, inputs and outputs keep their names. Of two names that would fall
-together the later kind (function of src/, definition, lemma) gets `_lem`; it stops where that isn't enough. In pages only what stands in backquotes is turned.
+together the later kind (function of src/, definition, lemma) gets `_lem`; it stops where that isn't enough. In pages
+only what stands in backquotes is turned.
 """
 import collections
 import os
@@ -18,7 +20,14 @@ DEFINED = re.compile(r"(?m)^\s*((?:abbrev |unfoldable |pub |data |record |module
 FUNCTION = re.compile(r"\b(?:fn|struct|enum|const|let|mut)\s+([a-z_][a-z0-9_]*)")
 IMPORTED = re.compile(r"(?m)^(?:ghost )?use [\w.]+\.\{([^}]*)\}")
 # what the rules above don't reach: an infix name that port.py takes for std's, names of variables
-FURTHER = {"◌orElse◌": "◌or_else◌", "orElse": "or_else", "getD-in": "get_or_in", "known-notMet": "known_not_met", "so-notMet": "so_not_met", "rulesFrom": "rules_from"}
+FURTHER = {
+    "◌orElse◌": "◌or_else◌",
+    "orElse": "or_else",
+    "getD-in": "get_or_in",
+    "known-notMet": "known_not_met",
+    "so-notMet": "so_not_met",
+    "rulesFrom": "rules_from",
+}
 TOKEN = re.compile(r"[A-Za-z_◌][\w'₀-₉→≡≤<≢⊎◌-]*")
 
 

@@ -8,7 +8,7 @@
 #include <ucontext.h>
 
 /* The most bytes that each may take: what was measured, and a tenth; those with an index may take 32 KiB. */
-enum { CHECK_LIMIT = 880, CLOSE_LIMIT = 477, COUNT_LIMIT = 442, PART_LIMIT = 61, INDEXED_LIMIT = 32768 };
+enum { CHECK_LIMIT = 880, CLOSE_LIMIT = 477, COUNT_LIMIT = 442, PART_LIMIT = 44, INDEXED_LIMIT = 32768 };
 
 enum { STACK = 1 << 20, FACTS = 4096, STORED = 32, HEADS = 64, NEVER = FACTS - 1 };
 

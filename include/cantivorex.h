@@ -12,7 +12,7 @@
  * round. The one that is lent an index is for all others: it looks at each body fact of each clause once for a state,
  * so that a long chain of clauses takes no longer than the same clauses side by side. Both give the same answers.
  *
- * Stack: at most 880 bytes for cantivorex_check, 477 for cantivorex_close, 442 for cantivorex_count and 61 for
+ * Stack: at most 880 bytes for cantivorex_check, 477 for cantivorex_close, 442 for cantivorex_count and 44 for
  * cantivorex_part; 32,768 for the two forms with an index, cantivorex_rules and cantivorex_holds. boundary/stack.c
  * measures it.
  */

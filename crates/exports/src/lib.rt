@@ -229,8 +229,8 @@ pub extern "C" fn cantivorex_count(model: &[u8], out: &mut [u64]) -> u8
     }
 }
 
-// Copies bytes to the front, as far as there is room; answers how many there are. Where it stood in its caller's frame,
-// that would take 16 bytes of stack more.
+// Copies bytes to the front, as far as there is room; answers how many there are. Its caller, which calls it last, needs
+// no stack for it.
 #[inline(never)]
 fn copy(bytes: &[u8], out: &mut [u8]) -> usize
     ensures count { result ≡ length bytes.now }
@@ -259,5 +259,14 @@ pub extern "C" fn cantivorex_part<'a>(
         (part_of model.now trace.now (record { mark = mark; start = start; size = size }))
         out.old out.new result }
 {
-    copy(both::part(model, trace, Part { mark, start, size }), out)
+    // The file is chosen before its bytes are looked at: then nothing has to wait on the stack.
+    let file = if mark == 1 { trace } else { model };
+    // A mark of neither file marks nothing.
+    let size = if mark < 2 { size } else { 0 };
+    let at = Part {
+        mark: 0,
+        start,
+        size,
+    };
+    copy(both::part(file, file, at), out)
 }

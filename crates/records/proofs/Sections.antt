@@ -3,7 +3,7 @@ use Prim.Native.Nat.{ℕ, zero, suc, ◌+◌, ◌-◌, ◌≤◌, ◌<◌}
 use mathlib.Core.Path.{◌≡◌, refl, ap, ◌∙◌, sym}
 use mathlib.Core.List.{List, [], ◌∷◌}
 use mathlib.Core.Option.{Option, none, some}
-use native.Mathlib.Nat.{not-suc-le-zero, zero-add, add-zero, add-suc, suc-add, le_refl, le_of_eq}
+use native.Mathlib.Nat.{not-suc-le-zero, suc-ne-zero, zero-add, add-zero, add-suc, suc-add, le_refl, le_of_eq}
 use native.Mathlib.Omega.{arith}
 use native.Mathlib.Numerals.{add-one}
 use lib.Dec.{leb}
@@ -65,6 +65,10 @@ more_turns (suc turns) (suc turns') (b ∷ bytes) h h' =
 pub records-none : records [] ≡ []
 unfolding records
 records-none = refl
+
+pub records_empty : (section : List ℕ) → length section ≡ 0 → records section ≡ []
+records_empty [] e = records-none
+records_empty (b ∷ bytes) e = absurd (suc-ne-zero _ e)
 
 -- a section is its first record and the records of the rest
 pub records-next : (section : List ℕ) → 0 < length section

@@ -6,7 +6,7 @@ use mathlib.Core.List.{List, [], ◌∷◌}
 use native.Mathlib.Nat.{not-suc-le-zero, le_of_suc-le-suc}
 use native.Mathlib.Omega.{arith}
 use lib.Dec.{leb, ltb, eqb}
-use lib.ListN.{length, get_or, drop}
+use lib.ListN.{length, get_or, take, drop}
 use lib.Seq.{drop-drop, get_or-drop}
 use borrow.Author.Tests.{eq-eqb, lt-ltb}
 use mir.Syntax.{w8}
@@ -87,3 +87,10 @@ even-length (a ∷ b ∷ rest) e = omega (arith, even-length rest e)
 
 pub odd_is : (bytes : List ℕ) → odd bytes ≡ eqb (length bytes % 2) 1
 odd_is bytes = by-test (odd bytes) (λ e. e ∙ sym (eq-eqb _ 1 (odd-length bytes e))) (λ e. rw (e, even-length bytes e))
+
+-- A number's two bytes are enough to read it.
+pub word-take : (bytes : List ℕ) → word (take 2 bytes) ≡ word bytes
+unfolding word
+word-take [] = refl
+word-take (a ∷ []) = refl
+word-take (a ∷ b ∷ rest) = refl

@@ -3,6 +3,7 @@
 #![tactic(auto)]
 
 ghost use Rattle.std.specs.Prelude.{◌≡◌, ◌+◌, ◌<◌, ◌≤◌, Bool, true, not, ◌&&◌, List, ◌∷◌, leb, ltb, length, take, drop};
+ghost use Rattle.std.specs.Iterator.{YieldsFirst, YieldsFirstBy, item_count};
 ghost use Rattle.sets.specs.Sets.{any};
 ghost use Rattle.records.specs.Words.{word, words, ascending};
 ghost use Rattle.records.specs.Codes.{over_two_lem, is_formula_lem};
@@ -59,6 +60,46 @@ struct Marks {
 struct Seen {
     large: bool,
     broken: bool,
+}
+
+// The numbers that bytes are, two by two; an odd byte at the end is none.
+#[derive(Clone, Copy)]
+pub struct Numbers<'a>(pub &'a [u8]);
+
+impl<'a> Iterator for Numbers<'a> {
+    type Item = usize;
+
+    ghost next_gives = { YieldsFirst (λ s. words s.0.now) };
+
+    ghost remaining = { item_count (λ s. words s.0.now) };
+
+    fn next(&mut self) -> Option<usize> {
+        let (number, rest) = self.0.split_first_chunk::<2>()?;
+        self.0 = rest;
+        Some(word_at(number, 0))
+    }
+}
+
+// The records of a section, in order.
+#[derive(Clone, Copy)]
+pub struct Records<'a>(pub &'a [u8]);
+
+impl<'a> Iterator for Records<'a> {
+    type Item = &'a [u8];
+
+    ghost next_gives = { YieldsFirstBy (λ r. r.now) (λ s. records s.0.now) };
+
+    ghost remaining = { item_count (λ s. records s.0.now) };
+
+    fn next(&mut self) -> Option<&'a [u8]> {
+        if self.0.is_empty() {
+            return None;
+        }
+        let record = record_at(self.0, 0);
+        let (_, rest) = self.0.split_at(record.len());
+        self.0 = rest;
+        Some(record)
+    }
 }
 
 fn wide(x: u8) -> usize

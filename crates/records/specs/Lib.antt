@@ -4,3 +4,4 @@ pub mod Records
 pub mod Answers
 pub mod Marking
 pub mod Above
+pub mod Refusals

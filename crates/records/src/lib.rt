@@ -11,6 +11,7 @@ ghost use Rattle.records.specs.Records.{record_of_lem, records, place_of, rows, 
 ghost use Rattle.records.specs.Records.{whole, bare, judge_lists, judge_formula, judge, first_fault_lem, fact_row};
 ghost use Rattle.records.specs.Above.{bits, bits_of, ended, after};
 ghost use Rattle.records.specs.Answers.{code, found};
+ghost use Rattle.records.specs.Refusals.{refusal_number};
 ghost use Rattle.records.specs.Marking.{marked, marked_by, picked, picked_of, before};
 
 // The kinds of records. A maker is a rule with a fourth list, the names it makes.
@@ -21,6 +22,34 @@ pub enum Kind {
     Maker,
     Goal,
     Formula,
+}
+
+// Why files are refused and why a run stops, by the names of document 01's table, each with its number there, and those
+// of document 02.
+#[derive(Clone, Copy, PartialEq, Eq)]
+pub enum Refusal {
+    Room = 1,
+    Long = 2,
+    Version = 3,
+    Shape = 4,
+    Count = 5,
+    Fact = 6,
+    Order = 7,
+    Name = 9,
+    Blocked = 10,
+    NoAttack = 11,
+    BadName = 12,
+    Used = 13,
+    Formula = 17,
+}
+
+impl Refusal {
+    // Its number in the table.
+    pub fn number(self) -> u8
+        ensures { result ≡ refusal_number self }
+    {
+        self as u8
+    }
 }
 
 // A fault: document 01's number, and the bytes at fault by their place and length.

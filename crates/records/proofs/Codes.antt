@@ -11,6 +11,7 @@ use lib.ListN.{length}
 use borrow.Author.Tests.{le-ltb, ne_eqb, leb-true, leb-false, ltb-true, ltb-false, eqb-false}
 use Rattle.sets.specs.Sets.{every, listed}
 use Rattle.sets.proofs.Laws.{is_true, is_false, by-test, every_in, listed-is}
+use Rattle.records.specs.Words.{words}
 use Rattle.records.specs.Codes.{over_one_lem, over_two_lem, behind, is_formula_lem}
 use Rattle.records.proofs.Judging.{or_clear}
 use Rattle.records.specs.Above.{bits, bits_of, ended, after}
@@ -214,3 +215,9 @@ left-next none c codes e r is = absurd (true≢false e)
 left-next (some above) c codes e r is =
     let ((some-above, shallow), small) = stops-not (bits above) c e in
     (after c above, is above refl, left_after above c codes (few_bits 32 above shallow) small)
+
+-- the operators above, as bits, where these bytes of the codes are left
+pub record Come (codes : List ℕ) (above : ℕ) (rest : List ℕ) : Type 0 where
+  pub operators : Option (List Bool)
+  pub number : above ≡ bits_of operators
+  pub same : is_formula_lem (words codes) ≡ left operators (words rest)

@@ -3,6 +3,7 @@ use Prim.Native.Nat.{ℕ, zero, suc, ◌+◌, ◌≤◌, ◌<◌}
 use mathlib.Core.Path.{◌≡◌, refl, ap, sym, ◌∙◌}
 use mathlib.Core.Bool.{Bool, true, false, not, ◌&&◌, ◌||◌, cond, true≢false}
 use mathlib.Core.List.{List, [], ◌∷◌, ◌++◌}
+use mathlib.Core.Logic.{◌⊎◌, inl, inr}
 use mathlib.Core.Option.{Option, none, some, none-ne-some}
 use native.Mathlib.Nat.{not-suc-le-zero, le_of_suc-le-suc, suc-add}
 use native.Mathlib.Omega.{arith}
@@ -16,11 +17,12 @@ use Rattle.records.specs.Words.{word, odd, ascending}
 use Rattle.records.specs.Codes.{is_formula_lem}
 use Rattle.records.specs.Records.{given, ◌or_else◌, record_of_lem, name_row, rows, list_count_lem, cut_lists, cut, lists_of}
 use Rattle.records.specs.Records.{most, over_long, wrong_fact, wrong_name, any_list}
-use Rattle.records.specs.Records.{whole, codes_in, judge_lists, judge_formula, judge}
-use Rattle.records.specs.Answers.{code}
-use Rattle.records.specs.Marking.{picked_of, before}
+use Rattle.records.specs.Records.{whole, codes_in, cut_clause, judge_lists, judge_formula, judge}
+use Rattle.records.specs.Refusals.{code}
+use Rattle.records.specs.Marking.{picked_of, before, judge_codes}
 use Rattle.records.specs.declared.Kind.{Kind}
 use Rattle.records.specs.declared.Kind.TheVariants.{Clause, Rule, Maker, Goal, Formula}
+use Rattle.records.specs.declared.Marks.{Marks}
 use Rattle.records.specs.declared.Row.{Row}
 use Rattle.records.proofs.Sections.{record-fits, record-rest}
 
@@ -48,6 +50,37 @@ lists_are K F n r = go (lists_of K r) refl
         → judge_lists K F n r ≡ picked_of (rows K F) (before K n) (lists_of K r)
     go none e = rw (e, judge_lists)
     go (some lists) e = rw (e, judge_lists)
+
+-- A record whose length does not fit is 4.
+pub not-whole : (K : Kind) (F n : ℕ) (r : List ℕ) → whole r ≡ false → judge K F n r ≡ some 4
+unfolding judge judge_formula picked_of lists_of
+not-whole Clause F n r e = rw (lists_are, e)
+not-whole Rule F n r e = rw (lists_are, e)
+not-whole Maker F n r e = rw (lists_are, e)
+not-whole Goal F n r e = rw (lists_are, e)
+not-whole Formula F n r e = rw e
+
+-- What is behind the length of one that is whole is judged by its kind, after the marks for its number: a clause's
+-- head and body,
+pub judged_clause : (K : Kind) (F n : ℕ) (r body : List ℕ) (m : Marks) → K ≡ Clause → m ≡ before K n
+    → (whole r ≡ true) × (body ≡ drop 2 r) → picked_of (rows Clause F) m (cut_clause body) ≡ judge K F n r
+unfolding judge lists_of cut
+judged_clause K F n r body m kind marks (fits, is) = rw (kind, marks, is, lists_are) (rw (kind, fits))
+
+-- the lists of a rule, a maker or an attack state,
+pub judged_lists : (K : Kind) (F n : ℕ) (r body : List ℕ) (m : Marks) → (K ≡ Rule) ⊎ (K ≡ Maker) ⊎ (K ≡ Goal)
+    → m ≡ before K n → (whole r ≡ true) × (body ≡ drop 2 r)
+    → picked_of (rows K F) m (cut_lists (list_count_lem K) body) ≡ judge K F n r
+unfolding judge lists_of cut
+judged_lists K F n r body m (inl kind) marks (fits, is) = rw (marks, is, kind, lists_are) (rw fits)
+judged_lists K F n r body m (inr (inl kind)) marks (fits, is) = rw (marks, is, kind, lists_are) (rw fits)
+judged_lists K F n r body m (inr (inr kind)) marks (fits, is) = rw (marks, is, kind, lists_are) (rw fits)
+
+-- and a formula's codes.
+pub judged_codes : (K : Kind) (F n : ℕ) (r body : List ℕ) (m : Marks) → K ≡ Formula → m ≡ before K n
+    → (whole r ≡ true) × (body ≡ drop 2 r) → judge_codes F m.count body ≡ judge K F n r
+unfolding judge judge_formula judge_codes codes_in before
+judged_codes K F n r body m kind marks (fits, is) = rw (kind, marks, is, kind) (rw fits)
 
 -- ---- rows
 
@@ -127,7 +160,6 @@ module _ (K : Kind) where
 
 -- a byte that is not 0 is the number
 pub refused : (number : Option ℕ) (k : ℕ) → k ≡ code number → (k ≡ 0 → ⊥) → number ≡ some k
-unfolding code
 refused none k e h = absurd (h e)
 refused (some j) k e h = ap {B = Option ℕ} some (sym e)
 
@@ -135,7 +167,7 @@ refused (some j) k e h = ap {B = Option ℕ} some (sym e)
 clear : (p q u v : ℕ) (first second third fourth : Bool)
     → 0 ≡ code (given first (suc p) or_else given second (suc q) or_else given third (suc u) or_else given fourth (suc v))
     → (first ≡ false) × (second ≡ false) × (third ≡ false) × (fourth ≡ false)
-unfolding code given ◌or_else◌
+unfolding given ◌or_else◌
 clear p q u v true second third fourth e = absurd (omega arith)
 clear p q u v false true third fourth e = absurd (omega arith)
 clear p q u v false false true fourth e = absurd (omega arith)
@@ -169,7 +201,7 @@ pub record Formed (F n : ℕ) (r : List ℕ) : Type 0 where
 module _ (K : Kind) (F n : ℕ) (r : List ℕ) where
   -- lists for which the byte is 0
   pub lists-fine : 0 ≡ code (judge_lists K F n r) → Judged K F n r
-  unfolding judge_lists code
+  unfolding judge_lists
   lists-fine e = go (lists_of K r) refl e
     where
       go : (lists : Option (List (List ℕ))) → lists_of K r ≡ lists → 0 ≡ code (judge_lists K F n r) → Judged K F n r

@@ -1,14 +1,13 @@
 -- Laws on the lists of a record: which number is their largest, and what one more list does to the marks.
-use Prim.Native.Nat.{ℕ, suc, ◌+◌, ◌-◌, ◌*◌, ◌%◌, ◌≤◌, ◌<◌}
-use mathlib.Core.Path.{◌≡◌, refl, ◌∙◌}
+use Prim.Native.Nat.{ℕ, suc, ◌+◌, ◌*◌, ◌%◌, ◌≤◌, ◌<◌}
+use mathlib.Core.Path.{◌≡◌, refl}
 use mathlib.Core.Bool.{Bool, true, false, ◌||◌, cond, or-true, or-false, or_assoc}
 use mathlib.Core.List.{List, [], ◌∷◌}
 use mathlib.Core.Option.{Option, none, some, map}
 use lib.Dec.{leb, ltb, eqb}
-use native.Mathlib.Nat.{not-suc-le-zero}
+use native.Mathlib.Nat.{not-suc-le-zero, suc-ne-zero}
 use native.Mathlib.Omega.{arith}
-use lib.ListN.{length, take, drop, length-drop, drop_of_length-le}
-use lib.Seq.{drop-drop}
+use lib.ListN.{length, take, drop}
 use borrow.Author.Tests.{leb-false, le-ltb, le-leb, lt-leb}
 use Rattle.sets.proofs.Laws.{by-test}
 use Rattle.records.specs.Words.{word, words, odd}
@@ -49,6 +48,11 @@ unfolding cut_lists
 cut-over [] h = absurd (not-suc-le-zero h)
 cut-over (b ∷ bytes) h = refl
 
+-- no bytes
+pub empty : (bytes : List ℕ) → length bytes ≡ 0 → bytes ≡ []
+empty [] e = refl
+empty (b ∷ bytes) e = absurd (suc-ne-zero _ e)
+
 -- a clause's tests in the code's order, and its two lists in the code's parts
 pub clause_tests : (bytes : List ℕ)
     → cut_clause bytes
@@ -75,38 +79,34 @@ unfolding picked_of marked_by
 picked_more m rows later l first is none = refl
 picked_more m rows later l first is (some lists) = rw (first, is) (simp or_assoc)
 
--- the same from a place of the body on
-module _ (rows : List Row) (m : Marks) (body : List ℕ) (at left : ℕ) where
+-- the same for what is left of the body
+module _ (rows : List Row) (m : Marks) (rest : List ℕ) (left : ℕ) where
   -- no more lists, and bytes left over
-  pub number-over : left ≡ 0 → at < length body → picked_of rows m (cut_lists left (drop at body)) ≡ some 4
+  pub number-over : left ≡ 0 → 0 < length rest → picked_of rows m (cut_lists left rest) ≡ some 4
   unfolding picked_of
-  number-over done h = rw (done, cut-over (drop at body) (rw length-drop (omega arith)))
+  number-over done h = rw (done, cut-over rest h)
 
   -- none left over
-  pub number-end : left ≡ 0 → length body ≤ at → picked_of rows m (cut_lists left (drop at body)) ≡ picked m
+  pub number-end : left ≡ 0 → length rest ≡ 0 → picked_of rows m (cut_lists left rest) ≡ picked m
   unfolding cut_lists
-  number-end done h = rw (done, drop_of_length-le body h) (picked-end rows m)
+  number-end done h = rw (done, empty rest h) (picked-end rows m)
 
-  -- one more list, whose numbers take `size` bytes, and k after it
-  module _ (k size : ℕ) (more : left ≡ suc k) (counted : size ≡ word (drop at body) * 2) where
+  -- one more list, and k after it
+  module _ (k : ℕ) (more : left ≡ suc k) where
     -- the list does not fit
-    pub number_short : length body < at + 2 + size → picked_of rows m (cut_lists left (drop at body)) ≡ some 4
+    pub number_short : length rest < 2 + 2 * word rest → picked_of rows m (cut_lists left rest) ≡ some 4
     unfolding picked_of
-    number_short h = rw (more, cut_short k (drop at body) (rw length-drop (omega arith)))
+    number_short h = rw (more, cut_short k rest h)
 
     -- the list fits
-    pub number-next : (row : Row) (later : List Row) (r : Marks) → rows ≡ row ∷ later → at + 2 + size ≤ length body
-        → r ≡ marked_by row (words (take (at + 2 + size - (at + 2)) (drop (at + 2) body))) m
-        → picked_of rows m (cut_lists left (drop at body)) ≡ picked_of later r (cut_lists k (drop (at + 2 + size) body))
+    pub number-next : (row : Row) (later : List Row) (r : Marks) → rows ≡ row ∷ later
+        → 2 + 2 * word rest ≤ length rest
+        → r ≡ marked_by row (words (take (2 * word rest) (drop 2 rest))) m
+        → picked_of rows m (cut_lists left rest) ≡ picked_of later r (cut_lists k (drop (2 + 2 * word rest) rest))
     number-next row later r first h marks =
-        let bytes = drop at body in
-        let list = take (2 * word bytes) (drop 2 bytes) in
-        let length-is : at + 2 + size - (at + 2) ≡ 2 * word bytes = omega arith in
-        let end_is : at + (2 + 2 * word bytes) ≡ at + 2 + size = omega arith in
-        let mine : r ≡ marked_by row (words list) m = rw (length-is, ← drop-drop 2 at body) at marks in
-        rw (more, cut-next k bytes (rw length-drop (omega arith)))
-        (picked_more m rows later (words list) first mine (cut_lists k (drop (2 + 2 * word bytes) bytes))
-        ∙ rw (drop-drop (2 + 2 * word bytes) at body, end_is))
+        rw (more, cut-next k rest h)
+        (picked_more m rows later (words (take (2 * word rest) (drop 2 rest))) first marks
+        (cut_lists k (drop (2 + 2 * word rest) rest)))
 
 -- ---- bare numbers
 

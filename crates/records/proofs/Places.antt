@@ -1,5 +1,5 @@
 -- Laws on where the records of a section start.
-use Prim.Native.Nat.{ℕ, zero, suc, ◌+◌, ◌-◌, ◌≤◌, ◌<◌}
+use Prim.Native.Nat.{ℕ, zero, suc, ◌+◌, ◌≤◌, ◌<◌}
 use mathlib.Core.Path.{◌≡◌, refl, ap, ◌∙◌, sym}
 use mathlib.Core.List.Memᴰ
 use mathlib.Core.List.{List, [], ◌∷◌}
@@ -9,7 +9,12 @@ use lib.ListN.{length, drop, get_or, length-drop}
 use lib.Seq.{drop-drop}
 use Rattle.sets.specs.Sets.{◌∈◌}
 use Rattle.records.specs.Records.{record_of_lem, records, place_of}
-use Rattle.records.proofs.Sections.{record-size, records-none, records-next, records-end, records-at}
+use Rattle.records.proofs.Sections.{record-size, records-none, records-next}
+
+-- how many bytes these records take together
+abbrev pub total : List (List ℕ) → ℕ
+total [] = 0
+total (r ∷ rs) = length r + total rs
 
 -- the bytes after a section's first record
 abbrev later : List ℕ → List ℕ
@@ -84,32 +89,35 @@ records_sum =
     let left = length-drop (length (record_of_lem section)) section in
     rw (records-next section h) (omega (arith, ih, record-size section h, left)))
 
+pub total_records : (section : List ℕ) → total (records section) ≡ length section
+total_records =
+    by-records (λ section. total (records section) ≡ length section) (rw records-none)
+    (λ section h ih.
+    let left = length-drop (length (record_of_lem section)) section in
+    rw (records-next section h) (omega (arith, ih, record-size section h, left)))
+
+-- A record takes a byte at least.
+pub few_records : (section : List ℕ) → length (records section) ≤ length section
+few_records =
+    by-records (λ section. length (records section) ≤ length section) (rw records-none (le_refl 0))
+    (λ section h ih.
+    let left = length-drop (length (record_of_lem section)) section in
+    rw (records-next section h) (omega (arith, ih, record-size section h, left)))
+
 -- Record n of a list that has so many is one of the list's.
 pub record_in_lem : (rs : List (List ℕ)) (n : ℕ) → n < length rs → get_or rs n [] ∈ rs
 record_in_lem [] n h = absurd (not-suc-le-zero h)
 record_in_lem (r ∷ rs) zero h = Memᴰ.head refl
 record_in_lem (r ∷ rs) (suc n) h = Memᴰ.tail (record_in_lem rs n (le_of_suc-le-suc h))
 
--- With records left to pass, the place is that of one record fewer after the record at hand.
-pub place-pass : (section : List ℕ) (at left : ℕ) (r : List ℕ) → r ≡ record_of_lem (drop at section)
-    → at < length section → 0 < left
-    → at + place_of left (records (drop at section))
-    ≡ (at + length r) + place_of (left - 1) (records (drop (at + length r) section))
+-- Once a record is passed, the place is that of one record fewer among the others.
+pub place_passed : (r : List ℕ) (rs others : List (List ℕ)) (n left : ℕ) → rs ≡ r ∷ others → left + 1 ≡ n
+    → place_of n rs ≡ length r + place_of left others
 unfolding place_of
-place-pass section at zero r e h l = absurd (not-suc-le-zero l)
-place-pass section at (suc left) r e h l =
-    let one : suc left - 1 ≡ left = omega arith in
-    rw (records-at section at r e h, one) (omega arith)
+place_passed r rs others n left e h = let more : n ≡ suc left = omega (arith, h) in rw (e, more)
 
--- With none left it is the place at hand.
-pub place_none : (section : List ℕ) (at left : ℕ) → left ≤ 0 → at + place_of left (records (drop at section)) ≡ at
+-- With none to pass, or none left, it is the place at hand.
+pub place_end : (rs : List (List ℕ)) (n : ℕ) → (0 < n → rs ≡ []) → place_of n rs ≡ 0
 unfolding place_of
-place_none section at zero h = omega arith
-place_none section at (suc left) h = absurd (not-suc-le-zero h)
-
--- From the section's end on it is the place at hand too.
-pub place_end : (section : List ℕ) (at left : ℕ) → length section ≤ at
-    → at + place_of left (records (drop at section)) ≡ at
-unfolding place_of
-place_end section at zero h = omega arith
-place_end section at (suc left) h = rw (records-end section at h) (omega arith)
+place_end rs zero none = refl
+place_end rs (suc n) none = rw (none (omega arith))

@@ -3,18 +3,15 @@ use Prim.Native.Nat.{ℕ, zero, suc, ◌+◌, ◌-◌, ◌≤◌, ◌<◌}
 use mathlib.Core.Path.{◌≡◌, refl, ap, ◌∙◌, sym}
 use mathlib.Core.List.{List, [], ◌∷◌}
 use mathlib.Core.Option.{Option, none, some}
-use native.Mathlib.Nat.{not-suc-le-zero, suc-ne-zero, zero-add, add-zero, add-suc, suc-add, le_refl, le_of_eq}
+use native.Mathlib.Nat.{not-suc-le-zero, suc-ne-zero, le_refl, le_of_eq}
 use native.Mathlib.Omega.{arith}
-use native.Mathlib.Numerals.{add-one}
 use lib.Dec.{leb}
 use lib.ListN.{length, take, drop, length-drop, drop_of_length-le}
 use lib.Seq.{length-take-le, take_all, drop-drop}
 use borrow.Author.Tests.{leb-true, leb-false, le-leb, lt-leb}
 use Rattle.sets.proofs.Laws.{by-test}
 use Rattle.records.specs.Words.{word}
-use Rattle.records.specs.Records.{record_of_lem, records_in, records, first_from, first_fault_lem}
-use Rattle.records.specs.Answers.{found}
-use Rattle.records.specs.declared.Found.{Found}
+use Rattle.records.specs.Records.{record_of_lem, records_in, records, first_from}
 
 -- ---- one record
 
@@ -117,36 +114,3 @@ module _ (refuses : ℕ → List ℕ → Option ℕ) where
         → first_from refuses n at (r ∷ rs) ≡ first_from refuses (suc n) (at + length r) rs
     unfolding first_from
     first-later passed = rw (passed, first_from)
-
-  -- the answer of a judge that has come to record n, at a place of the section
-  unfoldable pub answer_from : List ℕ → ℕ → ℕ → Found
-  answer_from section n at =
-      let left = records (drop at section) in
-      found (first_from refuses n at left) (n + length left)
-
-  -- at the section's start it is the answer for the section
-  pub answer-start : (section : List ℕ)
-      → found (first_fault_lem refuses section) (length (records section)) ≡ answer_from section 0 0
-  unfolding answer_from first_fault_lem
-  answer-start section = rw zero-add
-
-  -- at the section's end nothing is at fault, and n records were passed
-  pub answer-end : (section : List ℕ) (n at : ℕ) → length section ≤ at → answer_from section n at ≡ Found.Fine n
-  unfolding answer_from first_from found
-  answer-end section n at h = rw (records-end section at h) (ap Found.Fine (add-zero n))
-
-  module _ (section : List ℕ) (n at : ℕ) (r : List ℕ) (e : r ≡ record_of_lem (drop at section))
-      (h : at < length section) where
-    -- a record that is refused is the answer
-    pub answer-fault : (k : ℕ) → refuses n r ≡ some k
-        → answer_from section n at ≡ Found.Fault (record { number = k; start = at; size = length r })
-    unfolding answer_from found
-    answer-fault k refused = rw (records-at section at r e h, first-here n at r _ k refused)
-
-    -- a record that is not refused leaves it to the next
-    pub answer-next : refuses n r ≡ none → answer_from section n at ≡ answer_from section (n + 1) (at + length r)
-    unfolding answer_from
-    answer-next passed =
-        let rest = records (drop (at + length r) section) in
-        rw (records-at section at r e h, first-later n at r rest passed, add-one)
-        (rw (add-suc n (length rest), suc-add n (length rest)))

@@ -1,7 +1,6 @@
 pub mod Words
 pub mod Codes
+pub mod Refusals
 pub mod Records
-pub mod Answers
 pub mod Marking
 pub mod Above
-pub mod Refusals

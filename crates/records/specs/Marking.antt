@@ -1,8 +1,9 @@
 -- Contracts between functions: the marks that judging a record collects. No promise to the outside rests on them.
-use Rattle.std.specs.Prelude.{ℕ, Bool, false, not, ◌&&◌, ◌||◌, List, leb}
+use Rattle.std.specs.Prelude.{ℕ, Bool, false, not, ◌&&◌, ◌||◌, List, leb, ltb, length}
 use Rattle.std.proofs.Math.Option.{Option, none, some}
 use Rattle.sets.specs.Sets.{any}
-use Rattle.records.specs.Words.{ascending}
+use Rattle.records.specs.Codes.{is_formula_lem}
+use Rattle.records.specs.Words.{words, odd, ascending}
 use Rattle.records.specs.Records.{given, ◌or_else◌, most, over_long, wrong_fact, wrong_name, any_list}
 use Rattle.records.specs.declared.Kind.{Kind}
 use Rattle.records.specs.declared.Marks.{Marks}
@@ -45,3 +46,12 @@ picked_of rows m (some lists) =
       name = m.name || any_list wrong_name rows lists;
       order = m.order || any (λ l. not (ascending l)) lists;
     })
+
+-- the number for a formula's codes, of a record that is one too many or is not
+unfoldable pub judge_codes : ℕ → Bool → List ℕ → Option ℕ
+unfolding given ◌or_else◌ odd words any
+judge_codes F beyond bytes =
+    given (odd bytes) 4
+    or_else given (beyond || ltb 255 (length (words bytes))) 5
+    or_else given (any (λ c. leb F c && ltb c 32768) (words bytes)) 6
+    or_else given (not (is_formula_lem (words bytes))) 17

@@ -6,7 +6,7 @@ use Rattle.std.proofs.Math.Option.{Option, none, some, map, or_else as first_of}
 use Rattle.sets.specs.Sets.{any}
 use Rattle.records.specs.Words.{word, words, odd, ascending}
 use Rattle.records.specs.Codes.{is_formula_lem}
-use Rattle.records.specs.declared.Fault.{Fault}
+use Rattle.records.specs.Refusals.{Fault}
 use Rattle.records.specs.declared.Kind.{Kind}
 use Rattle.records.specs.declared.Kind.TheVariants.{Clause, Rule, Maker, Goal, Formula}
 use Rattle.records.specs.declared.Row.{Row}

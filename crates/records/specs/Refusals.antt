@@ -1,8 +1,9 @@
--- Document 01's numbers (the table of "Verdict numbers and the order") for the refusals that the code names, with those of
--- document 02, and what an answer that may be a refusal says in these numbers.
+-- Document 01's numbers (the table of "Verdict numbers and the order") for the refusals that the code names, with those
+-- of document 02, and what answers that may be a refusal or a fault say in these numbers.
 use Rattle.std.specs.Prelude.{ℕ}
 use Rattle.std.proofs.Math.Option.{Option, none, some}
 use Rattle.std.specs.Prelude.{Result, Ok, Err}
+use Rattle.records.specs.declared.Fault.{Fault as NamedFault}
 use Rattle.records.specs.declared.Refusal.{Refusal}
 use Rattle.records.specs.declared.Refusal.TheVariants as named
 
@@ -22,6 +23,16 @@ refusal_number named.BadName = 12
 refusal_number named.Used = 13
 refusal_number named.Formula = 17
 
+-- a fault: one of these numbers, and the bytes at fault by their place and length
+pub record Fault : Type 0 where
+  pub number : ℕ
+  pub start : ℕ
+  pub size : ℕ
+
+-- a fault of the code's, which has the refusal's name, as one
+abbrev pub fault_of : NamedFault → Fault
+fault_of f = record { number = refusal_number f.refusal; start = f.start; size = f.size }
+
 -- the number of what refuses, where something does
 abbrev pub refused_by : {A : Type 0} → Result A Refusal → Option ℕ
 refused_by (Ok x) = none
@@ -36,3 +47,13 @@ numbered (Err e) = Err (refusal_number e)
 abbrev pub answer_or : {A E : Type 0} → Option E → A → Result A E
 answer_or none x = Ok x
 answer_or (some e) x = Err e
+
+-- an answer that may be a fault, in these numbers
+abbrev pub told : {A : Type 0} → Result A NamedFault → Result A Fault
+told (Ok x) = Ok x
+told (Err f) = Err (fault_of f)
+
+-- a refusal's number as a byte, 0 where there is none
+abbrev pub code : Option ℕ → ℕ
+code none = 0
+code (some k) = k

@@ -2,17 +2,18 @@
 
 #![tactic(auto)]
 
-ghost use Rattle.std.specs.Prelude.{◌≡◌, ◌+◌, ◌<◌, ◌≤◌, Bool, true, not, ◌&&◌, List, ◌∷◌, leb, ltb, length, take, drop};
+ghost use Rattle.std.specs.Prelude.{◌≡◌, ◌+◌, ◌*◌, ◌<◌, ◌≤◌, Bool, true, false, not, ◌&&◌, List, ◌∷◌, leb, ltb, length, take, drop};
+ghost use Rattle.std.specs.Prelude.{MatchOption};
 ghost use Rattle.std.specs.Iterator.{YieldsFirst, YieldsFirstBy, item_count};
+ghost use Rattle.std.specs.List.{list_any};
 ghost use Rattle.sets.specs.Sets.{any};
 ghost use Rattle.records.specs.Words.{word, words, ascending};
 ghost use Rattle.records.specs.Codes.{over_two_lem, is_formula_lem};
 ghost use Rattle.records.specs.Records.{record_of_lem, records, place_of, rows, list_count_lem, cut_lists, cut_clause};
-ghost use Rattle.records.specs.Records.{whole, bare, judge_lists, judge_formula, judge, first_fault_lem, fact_row};
+ghost use Rattle.records.specs.Records.{whole, bare, judge, first_fault_lem, fact_row};
 ghost use Rattle.records.specs.Above.{bits, bits_of, ended, after};
-ghost use Rattle.records.specs.Answers.{code, found};
-ghost use Rattle.records.specs.Refusals.{refusal_number};
-ghost use Rattle.records.specs.Marking.{marked, marked_by, picked, picked_of, before};
+ghost use Rattle.records.specs.Refusals.{refusal_number, refused_by, told, answer_or};
+ghost use Rattle.records.specs.Marking.{marked, marked_by, picked, picked_of, before, judge_codes};
 
 // The kinds of records. A maker is a rule with a fourth list, the names it makes.
 #[derive(Clone, Copy)]
@@ -52,19 +53,21 @@ impl Refusal {
     }
 }
 
-// A fault: document 01's number, and the bytes at fault by their place and length.
+// A fault: why, and the bytes at fault by their place and length.
 #[derive(Clone, Copy)]
 pub struct Fault {
-    pub number: u8,
+    pub refusal: Refusal,
     pub start: usize,
     pub size: usize,
 }
 
-// What a section of records is: fine, with so many records, or at fault.
-#[derive(Clone, Copy)]
-pub enum Found {
-    Fine(usize),
-    Fault(Fault),
+// A fault's refusal, where no bytes are handed back.
+impl From<Fault> for Refusal {
+    ghost from_gives = { λ f r. r ≡ f.refusal };
+
+    fn from(fault: Fault) -> Refusal {
+        fault.refusal
+    }
 }
 
 // What a list is allowed: so many numbers, each below the limit; they are names or facts.
@@ -207,17 +210,9 @@ fn row_of(kind: Kind, j: usize, facts: usize) -> Row
 
 // Whether a number of the list is the limit or more, and below an end.
 fn reaches(list: &[u8], limit: usize, end: usize) -> bool
-    ensures { result ≡ any (λ x. leb limit x && ltb x end) (words list.now) }
+    ensures { result ≡ list_any (λ x. leb limit x && ltb x end) (words list.now) }
 {
-    let mut at = 0;
-    while 2 <= list.len() - at {
-        let x = word_at(list, at);
-        if (limit <= x) & (x < end) {
-            return true;
-        }
-        at += 2;
-    }
-    false
+    Numbers(list).any(|x| limit <= x && x < end)
 }
 
 // The marks with those of one more list, of names or of facts.
@@ -239,16 +234,14 @@ fn look(list: &[u8], limit: usize) -> Seen
     ensures { let numbers = words list.now in
         (result.large ≡ any (leb limit) numbers) × (result.broken ≡ not (ascending numbers)) }
 {
-    if list.len() < 2 {
+    let mut numbers = Numbers(list);
+    let Some(mut last) = numbers.next() else {
         return Seen {
             large: false,
             broken: false,
         };
-    }
-    let mut last = word_at(list, 0);
-    let mut at = 2;
-    while 2 <= list.len() - at {
-        let f = word_at(list, at);
+    };
+    for f in numbers {
         if f <= last {
             return Seen {
                 large: reaches(list, limit, 65536),
@@ -256,7 +249,6 @@ fn look(list: &[u8], limit: usize) -> Seen
             };
         }
         last = f;
-        at += 2;
     }
     Seen {
         large: limit <= last,
@@ -278,32 +270,32 @@ fn mark_list(list: &[u8], row: Row, marks: Marks) -> Marks
     )
 }
 
-// Document 01's number for the marks, the first that applies; 0 for none.
-fn pick(marks: Marks) -> u8
-    ensures { result ≡ code (picked marks) }
+// Why a record with these marks is refused, if it is: the first reason that applies.
+fn pick(marks: Marks) -> Result<(), Refusal>
+    ensures { refused_by result ≡ picked marks }
 {
     // Nearly every record is fine, which is then seen by one test.
     if marks.count | marks.fact | marks.name | marks.order {
-        if marks.count {
-            5
+        Err(if marks.count {
+            Refusal::Count
         } else if marks.fact {
-            6
+            Refusal::Fact
         } else if marks.name {
-            12
+            Refusal::BadName
         } else {
-            7
-        }
+            Refusal::Order
+        })
     } else {
-        0
+        Ok(())
     }
 }
 
-// The number for a section of bare numbers, names or facts, below a limit: 4, 6, 12 or 7, or 0.
-pub fn numbers_number(bytes: &[u8], names: bool, limit: usize) -> u8
-    ensures { result ≡ code (bare names limit bytes.now) }
+// Judges a section of bare numbers, names or facts, below a limit.
+pub fn check_numbers(bytes: &[u8], names: bool, limit: usize) -> Result<(), Refusal>
+    ensures { refused_by result ≡ bare names limit bytes.now }
 {
     if bytes.len() % 2 == 1 {
-        return 4;
+        return Err(Refusal::Shape);
     }
     // The numbers have no bound of their own, so they may fill the bytes.
     let row = Row {
@@ -320,29 +312,36 @@ pub fn numbers_number(bytes: &[u8], names: bool, limit: usize) -> u8
     pick(mark_list(bytes, row, clear))
 }
 
-// The number for the lists of a rule, a maker or an attack state, after some marks.
-fn lists_number(body: &[u8], kind: Kind, facts: usize, marks: Marks) -> u8
-    ensures { result ≡ code (picked_of (rows kind facts) marks (cut_lists (list_count_lem kind) body.now)) }
+// The numbers of the list that bytes start with, and what is behind it, where they have it whole.
+fn split_list(bytes: &[u8]) -> Option<(&[u8], &[u8])>
+    ensures { let size = 2 * word bytes.now in
+        MatchOption result (length bytes.now < 2 + size) (λ p. (2 + size ≤ length bytes.now)
+        × (p.0.now ≡ take size (drop 2 bytes.now)) × (p.1.now ≡ drop (2 + size) bytes.now)) }
 {
-    let lists = list_count(kind);
-    let mut marks = marks;
-    let mut at = 0;
-    let mut j = 0;
-    while j < lists {
-        if body.len() - at < 2 {
-            return 4;
-        }
-        let size = word_at(body, at) * 2;
-        let start = at + 2;
-        if body.len() - start < size {
-            return 4;
-        }
-        at = start + size;
-        marks = mark_list(&body[start..at], row_of(kind, j, facts), marks);
-        j += 1;
+    let (count, rest) = bytes.split_first_chunk::<2>()?;
+    let size = word_at(count, 0) * 2;
+    if size <= rest.len() {
+        Some(rest.split_at(size))
+    } else {
+        None
     }
-    if at < body.len() {
-        return 4;
+}
+
+// Judges the lists of a rule, a maker or an attack state, after some marks.
+fn check_lists(body: &[u8], kind: Kind, facts: usize, marks: Marks) -> Result<(), Refusal>
+    ensures { refused_by result ≡ picked_of (rows kind facts) marks (cut_lists (list_count_lem kind) body.now) }
+{
+    let mut marks = marks;
+    let mut rest = body;
+    for j in 0..list_count(kind) {
+        let Some((list, behind)) = split_list(rest) else {
+            return Err(Refusal::Shape);
+        };
+        marks = mark_list(list, row_of(kind, j, facts), marks);
+        rest = behind;
+    }
+    if !rest.is_empty() {
+        return Err(Refusal::Shape);
     }
     pick(marks)
 }
@@ -355,12 +354,12 @@ fn mark_head(body: &[u8], facts: usize, marks: Marks) -> Marks
     mark(marks, false, false, facts <= word_at(body, 0), false)
 }
 
-// The number for a clause's head and body, after some marks.
-fn clause_number(body: &[u8], facts: usize, marks: Marks) -> u8
-    ensures { result ≡ code (picked_of (rows Kind.Clause facts) marks (cut_clause body.now)) }
+// Judges a clause's head and body, after some marks.
+fn check_clause(body: &[u8], facts: usize, marks: Marks) -> Result<(), Refusal>
+    ensures { refused_by result ≡ picked_of (rows Kind.Clause facts) marks (cut_clause body.now) }
 {
     if body.len() < 2 || body.len() % 2 == 1 {
-        return 4;
+        return Err(Refusal::Shape);
     }
     // A loop over the one number of the head would take a sixth of the time for short clauses.
     let marks = mark_head(body, facts, marks);
@@ -410,68 +409,46 @@ fn is_formula(codes: &[u8]) -> bool
     ensures { result ≡ is_formula_lem (words codes.now) }
 {
     let mut above = 1;
-    let mut at = 0;
-    while 2 <= codes.len() - at {
-        let code = word_at(codes, at);
+    for code in Numbers(codes) {
         if (above == 0) | (4294967296 <= above) | (32775 < code) {
             return false;
         }
         above = pass(above, code);
-        at += 2;
     }
     above == 0
 }
 
-// Whether a record's length fits it.
-fn is_whole(bytes: &[u8]) -> bool
-    ensures { result ≡ whole bytes.now }
+// Judges a formula's codes, after the mark for its record's number.
+fn check_formula(codes: &[u8], facts: usize, marks: Marks) -> Result<(), Refusal>
+    ensures { refused_by result ≡ judge_codes facts marks.count codes.now }
 {
-    if bytes.len() < 2 {
-        return false;
-    }
-    bytes.len() == 2 + word_at(bytes, 0)
-}
-
-// The number for record n of its section, a formula: 4 to 6 or 17, or 0 where nothing is wrong with it.
-fn formula_number(formula: &[u8], n: usize, facts: usize) -> u8
-    ensures { result ≡ code (judge_formula facts n formula.now) }
-{
-    if !is_whole(formula) {
-        return 4;
-    }
-    let codes = &formula[2..];
     if codes.len() % 2 == 1 {
-        return 4;
+        return Err(Refusal::Shape);
     }
-    let marks = beyond(Kind::Formula, n);
     if marks.count | (255 < codes.len() / 2) {
-        return 5;
+        return Err(Refusal::Count);
     }
     if reaches(codes, facts, 32768) {
-        return 6;
+        return Err(Refusal::Fact);
     }
-    if is_formula(codes) { 0 } else { 17 }
+    if is_formula(codes) {
+        Ok(())
+    } else {
+        Err(Refusal::Formula)
+    }
 }
 
-// The number for record n of its section, which these bytes start with: 4 to 7 or 12, or 0 where nothing is wrong with
-// it. The caller has seen that it is no formula.
-fn record_number(rest: &[u8], kind: Kind, n: usize, facts: usize) -> u8
-    requires { kind ≡ Kind.Formula → ⊥ }
-    ensures { result ≡ code (judge_lists kind facts n (record_of_lem rest.now)) }
+// What is behind a record's length, where that fits.
+fn body_of(record: &[u8]) -> Option<&[u8]>
+    ensures { MatchOption result (whole record.now ≡ false)
+        (λ body. (whole record.now ≡ true) × (body.now ≡ drop 2 record.now)) }
 {
-    if rest.len() < 2 {
-        return 4;
+    let (size, body) = record.split_first_chunk::<2>()?;
+    if word_at(size, 0) == body.len() {
+        Some(body)
+    } else {
+        None
     }
-    let size = word_at(rest, 0);
-    if rest.len() - 2 < size {
-        return 4;
-    }
-    let body = &rest[2..size + 2];
-    let marks = beyond(kind, n);
-    if list_count(kind) == 0 {
-        return clause_number(body, facts, marks);
-    }
-    lists_number(body, kind, facts, marks)
 }
 
 // The marks before a record's lists are looked at: whether record n is beyond its section's bound.
@@ -493,64 +470,40 @@ fn beyond(kind: Kind, n: usize) -> Marks
     }
 }
 
-// The first fault of a section of records with lists, or how many records it has. The caller has seen that they are no
-// formulas.
-fn lists_fault(section: &[u8], kind: Kind, facts: usize) -> Found
-    requires { kind ≡ Kind.Formula → ⊥ }
+// Judges record n of its section.
+fn check_record(record: &[u8], kind: Kind, n: usize, facts: usize) -> Result<(), Refusal>
+    ensures { refused_by result ≡ judge kind facts n record.now }
+{
+    let Some(body) = body_of(record) else {
+        return Err(Refusal::Shape);
+    };
+    let marks = beyond(kind, n);
+    match kind {
+        Kind::Clause => check_clause(body, facts, marks),
+        Kind::Rule | Kind::Maker | Kind::Goal => check_lists(body, kind, facts, marks),
+        Kind::Formula => check_formula(body, facts, marks),
+    }
+}
+
+// The first fault of a section of records, or how many records it has.
+pub fn first_fault(section: &[u8], kind: Kind, facts: usize) -> Result<usize, Fault>
     ensures { let bytes = section.now in
-        result ≡ found (first_fault_lem (judge_lists kind facts) bytes) (length (records bytes)) }
+        told result ≡ answer_or (first_fault_lem (judge kind facts) bytes) (length (records bytes)) }
 {
     let mut at = 0;
     let mut n = 0;
-    while at < section.len() {
-        // A record is cut out only where it is at fault: cut out first, short clauses take a quarter longer.
-        let number = record_number(&section[at..], kind, n, facts);
-        if number != 0 {
-            let record = record_at(section, at);
-            return Found::Fault(Fault {
-                number,
+    for record in Records(section) {
+        if let Err(refusal) = check_record(record, kind, n, facts) {
+            return Err(Fault {
+                refusal,
                 start: at,
                 size: record.len(),
             });
         }
-        at += 2 + word_at(section, at);
+        at += record.len();
         n += 1;
     }
-    Found::Fine(n)
-}
-
-// The same of a section of formulas. In one loop for both short clauses take a sixth longer.
-fn formulas_fault(section: &[u8], facts: usize) -> Found
-    ensures { let bytes = section.now in
-        result ≡ found (first_fault_lem (judge_formula facts) bytes) (length (records bytes)) }
-{
-    let mut at = 0;
-    let mut n = 0;
-    while at < section.len() {
-        let formula = record_at(section, at);
-        let number = formula_number(formula, n, facts);
-        if number != 0 {
-            return Found::Fault(Fault {
-                number,
-                start: at,
-                size: formula.len(),
-            });
-        }
-        at += formula.len();
-        n += 1;
-    }
-    Found::Fine(n)
-}
-
-// The first fault of a section of records, or how many records it has.
-pub fn first_fault(section: &[u8], kind: Kind, facts: usize) -> Found
-    ensures { let bytes = section.now in
-        result ≡ found (first_fault_lem (judge kind facts) bytes) (length (records bytes)) }
-{
-    if let Kind::Formula = kind {
-        return formulas_fault(section, facts);
-    }
-    lists_fault(section, kind, facts)
+    Ok(n)
 }
 
 // Where record n of the section starts; the section's end where it has no such record.
@@ -558,11 +511,8 @@ pub fn place(section: &[u8], n: usize) -> usize
     ensures { result ≡ place_of n (records section.now) }
 {
     let mut at = 0;
-    let mut left = n;
-    while 0 < left && at < section.len() {
-        let record = record_at(section, at);
+    for record in Records(section).take(n) {
         at += record.len();
-        left -= 1;
     }
     at
 }

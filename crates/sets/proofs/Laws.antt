@@ -10,6 +10,7 @@ use mathlib.Core.List.{List, [], ◌∷◌}
 use lib.ListN.{length, get_or}
 use lib.Dec.{T, eqb, ltb, eqb→eq, eqb_refl}
 use borrow.Author.Tests.{ltb-true, ltb-false}
+use Rattle.std.specs.List.{list_any}
 use Rattle.sets.specs.Sets.{every, any, listed, first, ◌∈◌}
 
 -- A test that passes is true.
@@ -173,3 +174,9 @@ pub get_or_in {ℓ} : {A : Type ℓ} (xs : List A) (i : ℕ) (d : A) → i < len
 get_or_in [] i d h = absurd (not-suc-le-zero h)
 get_or_in (x ∷ xs) zero d h = Memᴰ.head refl
 get_or_in (x ∷ xs) (suc i) d h = Memᴰ.tail (get_or_in xs i d (le_of_suc-le-suc h))
+
+-- std's word for the same
+pub any_is : {A : Type 0} (p : A → Bool) (xs : List A) → list_any p xs ≡ any p xs
+unfolding any
+any_is p [] = refl
+any_is p (x ∷ xs) = rw (any_is p xs)

@@ -1,8 +1,7 @@
 -- The next number is the first two bytes, and the rest is behind them.
-use Rattle.std.proofs.Common.{rules, ◌≡◌, ◌+◌, ◌<◌, ◌≤◌, List, ◌∷◌, length, take, drop, ℕ}
-use mathlib.Core.Path.{◌∙◌, sym, ap}
+use Rattle.std.proofs.Common.{rules}
+use mathlib.Core.Path.{◌∙◌}
 use native.Mathlib.Omega.{arith}
-use Rattle.records.specs.Words.{word, words}
 use Rattle.records.proofs.Words.{words-two, words-none, word-take}
 use Rattle.records.proofs.NumbersIterator.next.Goals as goal
 

@@ -1,8 +1,6 @@
 -- The next record is the one at the start, and the rest is behind it.
-use Rattle.std.proofs.Common.{rules, ◌≡◌, ◌+◌, ◌<◌, ◌≤◌, List, ◌∷◌, length, take, drop, ℕ}
-use mathlib.Core.Path.{◌∙◌, sym, ap}
-use native.Mathlib.Omega.{arith}
-use Rattle.records.specs.Records.{record_of_lem, records}
+use Rattle.std.proofs.Common.{rules}
+use mathlib.Core.Path.{◌∙◌}
 use Rattle.records.proofs.Sections.{records_empty, records-next, record-size}
 use Rattle.records.proofs.RecordsIterator.next.Goals as goal
 

@@ -1,5 +1,5 @@
--- `records::clause_number` meets its contract: the head and the body are two more lists after the marks at the start.
-use mathlib.Core.Path.{refl, ◌∙◌, sym, ap}
+-- The head and the body are two more lists after the marks at the start.
+use mathlib.Core.Path.{refl, ◌∙◌, sym}
 use mathlib.Core.List.{[], ◌∷◌}
 use mathlib.Core.Option.{some}
 use native.Mathlib.Omega.{arith}
@@ -7,19 +7,18 @@ use lib.ListN.{take, drop}
 use borrow.Author.Tests.{lt-ltb, le-ltb, ne_eqb}
 use Rattle.records.specs.Words.{words}
 use Rattle.records.specs.Records.{rows}
-use Rattle.records.specs.Answers.{code}
 use Rattle.records.specs.Marking.{picked_of}
 use Rattle.records.proofs.Sections.{rest_of}
 use Rattle.records.proofs.Lists.{clause_tests, picked-end, picked_more}
-use Rattle.records.proofs.clause_number.Goals as goal
-use Rattle.records.proofs.clause_number.Goals.{then-body-lt2-via-then-body-lt2, then-body-lt2-via-else-body-lt2+then-body-eq1}
+use Rattle.records.proofs.check_clause.Goals as goal
+use Rattle.records.proofs.check_clause.Goals.{then-body-lt2-via-then-body-lt2, then-body-lt2-via-else-body-lt2+then-body-eq1}
 
 pub row_of-requires : goal.row_of-requires
 unfolding rows
 row_of-requires c = omega arith
 
 pub returns-then-body-lt2 : goal.returns-then-body-lt2
-unfolding code picked_of
+unfolding picked_of
 returns-then-body-lt2 c =
     rw clause_tests
     (elim c.then-body-lt2.branch [
@@ -33,9 +32,8 @@ returns c =
     let body = c.args.body.now in
     rw (clause_tests, le-ltb _ _ c.if-body-lt2.false, ne_eqb _ _ c.if-body-eq1.false)
     (c.pick.ensures
-    ∙ ap code
-    (sym
+    ∙ sym
     (picked_more _ _ _ (words (take 2 body)) refl c.mark_head-marks.ensures
     (some (words (drop 2 body) ∷ []))
     ∙ picked_more _ _ _ (words (drop 2 body)) c.row_of.ensures (rw rest_of at c.mark_list-marks.ensures) (some [])
-    ∙ picked-end _ _)))
+    ∙ picked-end _ _))

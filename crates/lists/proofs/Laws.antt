@@ -16,7 +16,7 @@ use Rattle.sets.proofs.Laws.{by-test}
 use Rattle.records.specs.Words.{word, words, odd}
 use Rattle.records.specs.Records.{records, whole, cut, lists_of}
 use Rattle.records.specs.Records.{most, judge, first_from, first_fault_lem}
-use Rattle.records.specs.Answers.{code}
+use Rattle.records.specs.Refusals.{code}
 use Rattle.lists.specs.Lists.{Cut, AllCut, ListBytes}
 use Rattle.records.specs.declared.Kind.{Kind}
 use Rattle.records.specs.declared.Kind.TheVariants.{Clause}
@@ -84,7 +84,7 @@ module _ (refuses : ℕ → List ℕ → Option ℕ) where
 module _ (K : Kind) (F : ℕ) (section : List ℕ) (fine : first_fault_lem (judge K F) section ≡ none) where
   -- A judged section has no more records than its bound.
   pub judged-count : length (records section) ≤ most K
-  unfolding first_fault_lem code
+  unfolding first_fault_lem
   judged-count =
       by-test (leb (length (records section)) (most K)) (leb-true _ _)
       (λ e. absurd (true≢false (sym (le-leb (most K) (most K) (le_refl (most K))) ∙ beyond (leb-false _ _ e))))
@@ -98,7 +98,6 @@ module _ (K : Kind) (F : ℕ) (section : List ℕ) (fine : first_fault_lem (judg
   module _ (r : List ℕ) (member : r ∈ records section) where
     -- the record was judged under some number, and nothing is wrong with it
     pub judged_as : (n : ℕ) × Judged K F n r
-    unfolding code
     judged_as = let (n, e) = passed-record (judge K F) section fine r member in (n, judged K F n r (sym (ap code e)))
 
   -- The lists of every record of a judged section fill it.

@@ -57,3 +57,8 @@ told (Err f) = Err (fault_of f)
 abbrev pub code : Option ℕ → ℕ
 code none = 0
 code (some k) = k
+
+-- the fault, where there is one
+abbrev pub fault_in : {A : Type 0} → Result A NamedFault → Option Fault
+fault_in (Ok x) = none
+fault_in (Err f) = some (fault_of f)

@@ -8,7 +8,7 @@ use native.Mathlib.Omega.{arith}
 use lib.ListN.{length, take, drop, length-drop}
 use borrow.Author.Tests.{leb-true, ltb-false}
 use Rattle.records.specs.Records.{given, ◌or_else◌}
-use Rattle.records.specs.declared.Fault.{Fault}
+use Rattle.records.specs.Refusals.{Fault}
 use Rattle.sections.specs.Sections.{long, end_at, fits, payload, rest_fault_lem, moved, in_section, left_over}
 
 -- ---- nothing at fault

@@ -4,18 +4,16 @@ use Prim.Native.Nat.{ℕ, suc, ◌+◌, ◌-◌, ◌*◌, ◌≤◌, ◌<◌}
 use mathlib.Core.Path.{◌≡◌, refl, ap, ◌∙◌, sym}
 use mathlib.Core.Bool.{Bool, true, false, not, ◌&&◌, cond}
 use mathlib.Core.List.{List, [], ◌∷◌}
-use mathlib.Core.Option.{Option, none, some, map, some-ne-none, none-ne-some}
+use mathlib.Core.Option.{Option, none, some, map, none-ne-some}
 use native.Mathlib.Omega.{arith}
-use lib.Dec.{leb, ltb, eqb, lit<}
+use lib.Dec.{leb}
 use lib.ListN.{length, take, drop, length-drop}
 use lib.Seq.{get_or-drop, drop-drop, length-take-le}
 use borrow.Author.Tests.{le-leb, lt-leb, ne_eqb}
-use Rattle.sets.specs.Sets.{any}
 use Rattle.records.specs.Words.{word, words, odd, ascending}
-use Rattle.records.specs.Records.{given, ◌or_else◌, records, bare, judge, first_from, first_fault_lem, place_of}
-use Rattle.records.specs.declared.Fault.{Fault}
+use Rattle.records.specs.Records.{records, bare, judge, first_from, first_fault_lem, place_of}
+use Rattle.records.specs.Refusals.{Fault}
 use Rattle.records.specs.declared.Kind.TheVariants as kind
-use Rattle.records.specs.Answers.{code}
 use Rattle.records.proofs.Sections.{first-here, first-later}
 use Rattle.records.proofs.Places.{records_sum}
 use Rattle.sections.specs.Sections.{long, end_at, fits, payload, rest_fault_lem, moved, in_section, all_of, sizes}
@@ -23,8 +21,6 @@ use Rattle.sections.specs.Sections.{rule_kind_lem, reader}
 use Rattle.sections.specs.declared.Role.{Role}
 use Rattle.sections.specs.declared.Role.TheVariants.{Sizes, Initial, Persistent, Names, Clauses, Rules}
 use Rattle.sections.specs.declared.Role.TheVariants.{Goals, Formulas}
-use Rattle.sections.specs.Answers.{passed}
-use Rattle.sections.specs.declared.Passed.{Passed}
 use Rattle.sections.proofs.Fits.{fits-within, payload-part}
 
 -- ---- a length
@@ -37,46 +33,6 @@ long-words bytes = rw (get_or-drop 2 bytes 0 0, get_or-drop 2 bytes 1 0) (omega 
 -- The same at a place of a file.
 pub long-at : (file : List ℕ) (at : ℕ) → long (drop at file) ≡ word (drop at file) * 65536 + word (drop (at + 2) file)
 long-at file at = rw (long-words, drop-drop)
-
--- ---- a number for all of the bytes
-
--- a number, where there is one, is not 0
-abbrev Counted : Option ℕ → Type 0
-Counted number = code number ≡ 0 → number ≡ none
-
-given_counted : (test : Bool) (k : ℕ) → 0 < k → Counted (given test k)
-unfolding given code
-given_counted true k h e = absurd (omega arith)
-given_counted false k h e = refl
-
-either-counted : (x y : Option ℕ) → Counted x → Counted y → Counted (x or_else y)
-unfolding ◌or_else◌ code
-either-counted none y cx cy e = cy e
-either-counted (some k) y cx cy e = cx e
-
--- The numbers for the sizes are such,
-pub sizes-counted : (bytes : List ℕ) → Counted (sizes bytes)
-unfolding sizes
-sizes-counted bytes =
-    either-counted _ _ (given_counted (not (eqb (length bytes) 2)) 4 (lit< tt))
-    (given_counted (ltb 4096 (word bytes)) 5 (lit< tt))
-
--- and those for bare numbers.
-pub bare-counted : (names : Bool) (limit : ℕ) (bytes : List ℕ) → Counted (bare names limit bytes)
-unfolding bare
-bare-counted names limit bytes =
-    let large = any (leb limit) (words bytes) in
-    either-counted _ _ (given_counted (odd bytes) 4 (lit< tt))
-    (either-counted _ _ (given_counted (not names && large) 6 (lit< tt))
-    (either-counted _ _ (given_counted (names && large) 12 (lit< tt))
-    (given_counted (not (ascending (words bytes))) 7 (lit< tt))))
-
--- Such a number as a byte gives the fault for all of the bytes.
-pub whole-fault : (number : Option ℕ) (bytes : List ℕ) {byte : ℕ} → Counted number → byte ≡ code number
-    → given (not (eqb byte 0)) (record { number = byte; start = 0; size = length bytes }) ≡ all_of number bytes
-unfolding code given all_of
-whole-fault none bytes counted e = rw e
-whole-fault (some k) bytes {byte} counted e = rw (ne_eqb byte 0 (λ z. some-ne-none k (counted (sym e ∙ z))), e)
 
 -- ---- where a record at fault stands
 
@@ -153,26 +109,9 @@ module _ (file : List ℕ) (at : ℕ) where
   fit-ended fit =
       let (start, within) = fits-within file at fit in record { fit = fit; is = refl; start = start; within = within }
 
-  -- An end of 0 says that the length doesn't fit.
-  pub no_end : (end : ℕ) → end ≡ cond (fits file at) (end_at file at) 0 → end ≡ 0 → fits file at ≡ false
-  unfolding end_at
-  no_end end e z = go (fits file at) e
-    where
-      go : (b : Bool) → end ≡ cond b (end_at file at) 0 → b ≡ false
-      go true h = absurd (omega arith)
-      go false h = refl
-
-  -- An end other than 0 is where the section ends.
-  pub some_end : (end : ℕ) → end ≡ cond (fits file at) (end_at file at) 0 → (end ≡ 0 → ⊥) → Ended file at end
-  some_end end e n = go (fits file at) refl
-    where
-      go : (b : Bool) → fits file at ≡ b → Ended file at end
-      go true fit = let ends : end ≡ end_at file at = rw fit at e in rw ends (fit-ended fit)
-      go false fit = absurd (n (rw fit at e))
-
-  -- A section whose length fits ends where `section_end` says.
-  pub fit-end : {end : ℕ} → fits file at ≡ true → end ≡ cond (fits file at) (end_at file at) 0 → Ended file at end
-  fit-end fit e = let ends : _ ≡ end_at file at = rw fit at e in rw ends (fit-ended fit)
+  -- So it does where `section_end` says.
+  pub fits-ended : (end : ℕ) → (fits file at ≡ true) × (end ≡ end_at file at) → Ended file at end
+  fits-ended end (fit, is) = rw is (fit-ended fit)
 
   -- ---- the answer for a section
 
@@ -181,30 +120,16 @@ module _ (file : List ℕ) (at : ℕ) where
   ended-bytes end s = rw s.is (payload-part file at)
 
   -- A section whose length doesn't fit is at fault there, whatever its reader would find.
-  pub unfit-answer : (reader : List ℕ → Option Fault) (end count : ℕ) {e : ℕ} {f : Fault}
-      → e ≡ cond (fits file at) (end_at file at) 0 → e ≡ 0 → f ≡ rest_fault_lem file at
-      → Passed.Fault f ≡ passed (in_section reader file at) end count
-  unfolding passed in_section
-  unfit-answer reader end count found none-there rest = rw (rest, no_end _ found none-there)
+  pub unfit-fault : (reader : List ℕ → Option Fault) → fits file at ≡ false
+      → in_section reader file at ≡ some (rest_fault_lem file at)
+  unfolding in_section
+  unfit-fault reader unfit = rw unfit
 
   -- Of any other the reader's fault tells, at its place in the file.
   pub fit-fault : (reader : List ℕ → Option Fault) → fits file at ≡ true
       → in_section reader file at ≡ map (moved (at + 4)) (reader (payload file at))
   unfolding in_section
   fit-fault reader fit = rw fit
-
-  -- A section in which the reader finds nothing.
-  pub fine-answer : (reader : List ℕ → Option Fault) (end count : ℕ) → Ended file at end
-      → reader (payload file at) ≡ none → Passed.To end count ≡ passed (in_section reader file at) (end_at file at) count
-  unfolding passed
-  fine-answer reader end count s e = rw (fit-fault reader s.fit, e, s.is)
-
-  -- A section in which it finds a fault.
-  pub fault-answer : (reader : List ℕ → Option Fault) (end count : ℕ) (f : Fault) → Ended file at end
-      → reader (payload file at) ≡ some f
-      → Passed.Fault (moved (at + 4) f) ≡ passed (in_section reader file at) (end_at file at) count
-  unfolding passed moved
-  fault-answer reader end count f s e = rw (fit-fault reader s.fit, e)
 
   -- There are as many bytes as the length says.
   pub ended-size : (end : ℕ) → Ended file at end → length (payload file at) ≡ end - (at + 4)

@@ -4,7 +4,7 @@ use Rattle.std.specs.Prelude.{ℕ, zero, suc, ◌+◌, ◌-◌, ◌*◌, Bool, t
 use Rattle.std.proofs.Math.Option.{Option, none, some, map}
 use Rattle.records.specs.Words.{word}
 use Rattle.records.specs.Records.{given, ◌or_else◌, records, bare, judge, first_fault_lem}
-use Rattle.records.specs.declared.Fault.{Fault}
+use Rattle.records.specs.Refusals.{Fault}
 use Rattle.records.specs.declared.Kind.{Kind}
 use Rattle.records.specs.declared.Kind.TheVariants as kind
 use Rattle.sections.specs.declared.Role.{Role}

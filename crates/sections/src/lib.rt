@@ -3,19 +3,17 @@
 
 #![tactic(auto)]
 
-ghost use Rattle.std.specs.Prelude.{◌≡◌, not, cond, ◌+◌, ◌≤◌, ◌<◌, eqb, length, drop, get_or};
-ghost use Rattle.records.specs.Records.{given, bare};
-ghost use Rattle.records.specs.Answers.{code, found};
+ghost use Rattle.std.specs.Prelude.{◌≡◌, true, false, ◌+◌, ◌≤◌, ◌<◌, length, drop, get_or, MatchOption};
+ghost use Rattle.records.specs.Refusals.{refused_by, fault_of, told, answer_or};
 ghost use Rattle.sections.specs.Sections.{long, end_at, fits, payload, in_section, rest_fault_lem, moved, all_of};
 ghost use Rattle.sections.specs.Sections.{sizes, rule_kind_lem, reader, entries};
-ghost use Rattle.sections.specs.Answers.{passed};
 
 pub mod head;
 
-use records::{Fault, Found, Kind};
+use records::{Fault, Kind, Refusal};
 
 // The sections that a model has, by what is in them.
-#[derive(Clone, Copy)]
+#[derive(Clone, Copy, PartialEq, Eq)]
 pub enum Role {
     Sizes,
     Initial,
@@ -27,11 +25,11 @@ pub enum Role {
     Formulas,
 }
 
-// What one section is: fine, with its end and how many records it has, or at fault.
+// A section that is fine: where it ends, and how many records it has.
 #[derive(Clone, Copy)]
-pub enum Passed {
-    To { end: usize, count: usize },
-    Fault(Fault),
+pub struct Passed {
+    pub end: usize,
+    pub count: usize,
 }
 
 // The 4-byte number at a place. The caller has seen that the bytes are there.
@@ -44,33 +42,30 @@ fn long_at(file: &[u8], at: usize) -> usize
     high * 65536 + low
 }
 
-// Where the section whose length stands at a place ends; 0 where that length is missing or doesn't fit.
-pub fn section_end(file: &[u8], at: usize) -> usize
-    ensures { result ≡ cond (fits file.now at) (end_at file.now at) 0 }
+// Where the section whose length stands at a place ends, where that length is there and fits.
+pub fn section_end(file: &[u8], at: usize) -> Option<usize>
+    ensures { MatchOption result (fits file.now at ≡ false)
+        (λ end. (fits file.now at ≡ true) × (end ≡ end_at file.now at)) }
 {
     if file.len() < at || file.len() - at < 4 {
-        return 0;
+        return None;
     }
     let start = at + 4;
     let size = long_at(file, at);
     if file.len() - start < size {
-        return 0;
+        return None;
     }
-    start + size
+    Some(start + size)
 }
 
 // The fault of a file from a place on to its end.
 pub fn rest_fault(file: &[u8], at: usize) -> Fault
-    ensures { result ≡ rest_fault_lem file.now at }
+    ensures { fault_of result ≡ rest_fault_lem file.now at }
 {
-    let mut size = 0;
-    if at < file.len() {
-        size = file.len() - at;
-    }
     Fault {
-        number: 4,
+        refusal: Refusal::Shape,
         start: at,
-        size,
+        size: file.len().saturating_sub(at),
     }
 }
 
@@ -78,48 +73,39 @@ pub fn rest_fault(file: &[u8], at: usize) -> Fault
 // a file.
 fn move_fault(fault: Fault, by: usize) -> Fault
     requires { by + fault.start < 18446744073709551616 }
-    ensures { result ≡ moved by fault }
+    ensures { fault_of result ≡ moved by (fault_of fault) }
 {
-    let start = by + fault.start;
     Fault {
-        number: fault.number,
-        start,
-        size: fault.size,
+        start: by + fault.start,
+        ..fault
     }
 }
 
-// The answer for bytes that are judged as one record: its number is for all of them.
-fn whole(number: u8, size: usize) -> Found
-    ensures { result ≡ found (given (not (eqb number 0)) (record { number = number; start = 0; size = size })) 0 }
+// The answer for bytes that are judged as one record: what refuses it is for all of them, and it has no records.
+fn whole(judged: Result<(), Refusal>, bytes: &[u8]) -> Result<usize, Fault>
+    ensures { told result ≡ answer_or (all_of (refused_by judged) bytes.now) 0 }
 {
-    if number == 0 {
-        return Found::Fine(0);
+    match judged {
+        Ok(()) => Ok(0),
+        Err(refusal) => Err(Fault {
+            refusal,
+            start: 0,
+            size: bytes.len(),
+        }),
     }
-    Found::Fault(Fault {
-        number,
-        start: 0,
-        size,
-    })
 }
 
-// The number for the sizes: 4 or 5, or 0.
-fn sizes_number(bytes: &[u8]) -> u8
-    ensures { result ≡ code (sizes bytes.now) }
+// Judges the sizes.
+fn check_sizes(bytes: &[u8]) -> Result<(), Refusal>
+    ensures { refused_by result ≡ sizes bytes.now }
 {
     if bytes.len() != 2 {
-        return 4;
+        return Err(Refusal::Shape);
     }
     if 4096 < records::word_at(bytes, 0) {
-        return 5;
+        return Err(Refusal::Count);
     }
-    0
-}
-
-// The answer for bare numbers, names or facts, below a limit.
-fn numbers(bytes: &[u8], names: bool, limit: usize) -> Found
-    ensures { result ≡ found (all_of (bare names limit bytes.now) bytes.now) 0 }
-{
-    whole(records::numbers_number(bytes, names, limit), bytes.len())
+    Ok(())
 }
 
 // What the rules of a version are.
@@ -130,35 +116,33 @@ pub fn rule_kind(version: u8) -> Kind
 }
 
 // The answer for a section's bytes, in a model of a version and of so many facts.
-fn read(bytes: &[u8], version: u8, role: Role, facts: usize) -> Found
-    ensures { result ≡ found (reader version role facts bytes.now) (entries role bytes.now) }
+fn read(bytes: &[u8], version: u8, role: Role, facts: usize) -> Result<usize, Fault>
+    ensures { told result ≡ answer_or (reader version role facts bytes.now) (entries role bytes.now) }
 {
-    let kind = match role {
-        Role::Sizes => return whole(sizes_number(bytes), bytes.len()),
-        Role::Initial => return numbers(bytes, false, facts),
-        Role::Persistent => return numbers(bytes, false, facts),
-        Role::Names => return numbers(bytes, true, 1024),
-        Role::Clauses => Kind::Clause,
-        Role::Rules => rule_kind(version),
-        Role::Goals => Kind::Goal,
-        Role::Formulas => Kind::Formula,
-    };
-    records::first_fault(bytes, kind, facts)
+    match role {
+        Role::Sizes => whole(check_sizes(bytes), bytes),
+        Role::Initial => whole(records::check_numbers(bytes, false, facts), bytes),
+        Role::Persistent => whole(records::check_numbers(bytes, false, facts), bytes),
+        Role::Names => whole(records::check_numbers(bytes, true, 1024), bytes),
+        Role::Clauses => records::first_fault(bytes, Kind::Clause, facts),
+        Role::Rules => records::first_fault(bytes, rule_kind(version), facts),
+        Role::Goals => records::first_fault(bytes, Kind::Goal, facts),
+        Role::Formulas => records::first_fault(bytes, Kind::Formula, facts),
+    }
 }
 
 // The section whose length stands at a place, in a model of so many facts.
-pub fn judge_section(file: &[u8], at: usize, role: Role, facts: usize) -> Passed
+pub fn judge_section(file: &[u8], at: usize, role: Role, facts: usize) -> Result<Passed, Fault>
     ensures { let model = file.now in
-        result ≡ passed (in_section (reader (get_or model 0 0) role facts) model at) (end_at model at)
-        (entries role (payload model at)) }
+        told result ≡ answer_or (in_section (reader (get_or model 0 0) role facts) model at)
+        (record { end = end_at model at; count = entries role (payload model at) }) }
 {
-    let end = section_end(file, at);
-    if end == 0 {
-        return Passed::Fault(rest_fault(file, at));
-    }
+    let Some(end) = section_end(file, at) else {
+        return Err(rest_fault(file, at));
+    };
     let by = at + 4;
     match read(&file[by..end], head::version_of(file), role, facts) {
-        Found::Fine(count) => Passed::To { end, count },
-        Found::Fault(fault) => Passed::Fault(move_fault(fault, by)),
+        Ok(count) => Ok(Passed { end, count }),
+        Err(fault) => Err(move_fault(fault, by)),
     }
 }

@@ -16,7 +16,8 @@ use Rattle.records.specs.Records.{given, ◌or_else◌}
 use Rattle.records.proofs.Words.{odd_is, length-words}
 use Rattle.sections.specs.Sections.{end_at, section_at, fits, payload, rest_fault_lem, moved, in_section, left_over, all_of}
 use Rattle.files.specs.Files.{entries_of, trace_of, trace_shape, trace_count, lacks, trace_names, trace_fault}
-use Rattle.sections.specs.Answers.{passed}
+use Rattle.std.specs.Prelude.{Result, Ok, Err}
+use Rattle.records.specs.Refusals.{Fault, answer_or}
 use Rattle.sections.specs.declared.Passed.{Passed}
 use Rattle.sections.proofs.Parts.{Ended, fit-fault}
 
@@ -50,13 +51,14 @@ module _ (known rules entry : ℕ) (entries : List ℕ) where
 -- ---- the answer for a trace
 
 -- the answer that the contract of `judge_trace` names
-abbrev pub answer : ℕ → ℕ → List ℕ → Passed
-answer goals rules file = passed (trace_fault goals rules file) (end_at file 1) (length (trace_of file).steps)
+abbrev pub answer : ℕ → ℕ → List ℕ → Result Passed Fault
+answer goals rules file =
+    answer_or (trace_fault goals rules file) (record { end = end_at file 1; count = length (trace_of file).steps })
 
 -- A trace whose section doesn't fit is at fault there.
 pub answer-unfit : (goals rules : ℕ) (file : List ℕ) → fits file 1 ≡ false
-    → Passed.Fault (rest_fault_lem file 1) ≡ answer goals rules file
-unfolding trace_fault section_at in_section ◌or_else◌ passed
+    → Err (rest_fault_lem file 1) ≡ answer goals rules file
+unfolding trace_fault section_at in_section ◌or_else◌
 answer-unfit goals rules file unfit = rw unfit
 
 module _ (goals rules : ℕ) (file : List ℕ) (end : ℕ) (ended : Ended file 1 end) (bytes : List ℕ)
@@ -79,8 +81,8 @@ module _ (goals rules : ℕ) (file : List ℕ) (end : ℕ) (ended : Ended file 1
 
   -- It is 4 for bytes that are too few or odd.
   pub answer-shape : (length bytes < 2) ⊎ (eqb (length bytes % 2) 1 ≡ true)
-      → Passed.Fault (record { number = 4; start = 5; size = length bytes }) ≡ answer goals rules file
-  unfolding trace_shape given all_of moved ◌or_else◌ passed
+      → Err (record { number = 4; start = 5; size = length bytes }) ≡ answer goals rules file
+  unfolding trace_shape given all_of moved ◌or_else◌
   answer-shape h = rw (chain, misshapen h)
     where
       misshapen : (length bytes < 2) ⊎ (eqb (length bytes % 2) 1 ≡ true) → (odd bytes || ltb (length bytes) 2) ≡ true
@@ -94,15 +96,15 @@ module _ (goals rules : ℕ) (file : List ℕ) (end : ℕ) (ended : Ended file 1
     whole = rw (odd_is, even, le-ltb _ _ long)
 
     -- It is 4 for the bytes after the section.
-    pub answer-left : end < length file → Passed.Fault (rest_fault_lem file end) ≡ answer goals rules file
-    unfolding left_over given ◌or_else◌ passed
+    pub answer-left : end < length file → Err (rest_fault_lem file end) ≡ answer goals rules file
+    unfolding left_over given ◌or_else◌
     answer-left h = rw (chain, whole, lt-ltb _ _ h)
 
     module _ (done : length file ≤ end) where
       -- It is 5 for too many steps.
       pub answer-count : 1024 < length bytes / 2 - 1
-          → Passed.Fault (record { number = 5; start = 5; size = length bytes }) ≡ answer goals rules file
-      unfolding trace_count left_over given all_of moved ◌or_else◌ passed
+          → Err (record { number = 5; start = 5; size = length bytes }) ≡ answer goals rules file
+      unfolding trace_count left_over given all_of moved ◌or_else◌
       answer-count h =
           let many : 1 + 1024 < length (words bytes) = omega (arith, length-words bytes) in
           rw (chain, whole, le-ltb _ _ done, lt-ltb _ _ many)
@@ -135,13 +137,13 @@ module _ (goals rules : ℕ) {file : List ℕ} {end : ℕ} {bytes : List ℕ} (s
 
   -- It is 9 for that entry.
   pub answer-name : at < length bytes
-      → Passed.Fault (record { number = 9; start = 5 + at; size = 2 }) ≡ answer goals rules file
-  unfolding trace_names given moved passed
+      → Err (record { number = 9; start = 5 + at; size = 2 }) ≡ answer goals rules file
+  unfolding trace_names given moved
   answer-name h = rw (names-left, lt-ltb _ _ (spot.0 h), found)
 
   -- Where there is none, nothing is at fault.
-  pub answer-fine : length bytes ≤ at → Passed.To end (length bytes / 2 - 1) ≡ answer goals rules file
-  unfolding trace_names given passed trace_of entries_of section_at
+  pub answer-fine : length bytes ≤ at → Ok (record { end = end; count = length bytes / 2 - 1 }) ≡ answer goals rules file
+  unfolding trace_names given trace_of entries_of section_at
   answer-fine h =
       let steps : length bytes / 2 - 1 ≡ length (words (drop 2 bytes)) =
       omega (arith, length-words (drop 2 bytes), length-drop 2 bytes) in

@@ -15,7 +15,7 @@ use Rattle.meaning.specs.Model.{aims}
 use Rattle.records.specs.Words.{word, words}
 use Rattle.records.specs.Codes.{is_formula_lem}
 use Rattle.records.specs.Records.{records, whole, codes_in, judge, first_fault_lem}
-use Rattle.records.specs.Answers.{code}
+use Rattle.records.specs.Refusals.{code}
 use Rattle.records.specs.declared.Kind.TheVariants as kind
 use Rattle.records.proofs.Words.{even-length}
 use Rattle.records.proofs.Judging.{Formed, formed}
@@ -30,7 +30,7 @@ module _ (m : List ℕ) (fine : shape_fault m ≡ none) where
   -- Nothing is wrong with a formula's record.
   pub formula-formed : (k : ℕ) → k < length (records (section_of m Formulas))
       → Formed (fact_count m) k (get_or (records (section_of m Formulas)) k [])
-  unfolding first_fault_lem judge code
+  unfolding first_fault_lem judge
   formula-formed k h =
       let F = fact_count m in
       let rs = records (section_of m Formulas) in

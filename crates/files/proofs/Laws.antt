@@ -29,16 +29,21 @@ use Rattle.sections.specs.declared.Role.TheVariants.{Formulas}
 use Rattle.files.specs.Files.{section_of, fact_count, clause_of, rule_in, goal_in, formula_in, model_of_lem, shape_fault}
 use Rattle.files.specs.Files.{model_fault}
 use Rattle.files.specs.Known.{KnownNames}
-use Rattle.files.specs.Answers.{counts_of, judged}
-use Rattle.files.specs.declared.Judged.{Judged}
+use Rattle.files.specs.Answers.{counts_of}
+use Rattle.files.specs.declared.Counts.{Counts}
+use Rattle.std.specs.Prelude.{Result}
+use Rattle.records.specs.Refusals.{told, answer_or}
+use Rattle.records.specs.declared.Fault.{Fault}
+use Rattle.records.proofs.Laws.{told_same}
 use Rattle.files.proofs.Roles.{one-lacks, names-lacking, formulas-lacking, section-absent}
 use Rattle.files.proofs.Shaped.{judged-section}
 use Rattle.files.proofs.Order.{all-fine, sizes-fine, bare-even, bare-fine}
 
 -- Two answers for a model that meet the contract of `judge_model` are equal.
-pub model_unique : (file : List ℕ) (x y : Judged) → x ≡ judged (model_fault file) (counts_of file)
-    → y ≡ judged (model_fault file) (counts_of file) → x ≡ y
-model_unique file x y p q = p ∙ sym q
+pub model_unique : (file : List ℕ) (x y : Result Counts Fault)
+    → told x ≡ answer_or (model_fault file) (counts_of file)
+    → told y ≡ answer_or (model_fault file) (counts_of file) → x ≡ y
+model_unique file x y p q = told_same x y (p ∙ sym q)
 
 -- The persistent facts are the numbers in their section.
 pub persistent_in : (file : List ℕ) {bytes : List ℕ} → bytes ≡ section_of file Persistent

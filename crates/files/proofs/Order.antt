@@ -16,19 +16,22 @@ use Rattle.sets.specs.Sets.{any, ◌∈◌}
 use Rattle.sets.proofs.Laws.{by-test, is_false, fails, any_intro}
 use Rattle.records.specs.Words.{word, words, odd, ascending}
 use Rattle.records.specs.Records.{given, ◌or_else◌, record_of_lem, records, bare}
-use Rattle.records.specs.declared.Fault.{Fault}
+use Rattle.records.specs.Refusals.{Fault}
 use Rattle.records.proofs.Sections.{record-size, records-none, records-next}
 use Rattle.records.proofs.Places.{by-records}
 use Rattle.sections.specs.Sections.{end_at, fits, section_at, payload, in_section, rest_fault_lem, left_over, all_of, sizes}
 use Rattle.sections.specs.Sections.{reader, entries}
-use Rattle.sections.specs.Answers.{passed}
+use Rattle.std.specs.Prelude.{Result, Ok, Err}
+use Rattle.records.specs.Refusals.{fault_of, told, answer_or}
+use Rattle.records.specs.declared.Fault.{Fault as NamedFault}
+use Rattle.records.proofs.Laws.{told_ok, told_err}
 use Rattle.sections.specs.declared.Passed.{Passed}
 use Rattle.sections.specs.declared.Role.{Role}
 use Rattle.sections.specs.declared.Role.TheVariants.{Sizes, Initial, Persistent, Names, Clauses, Rules, Goals}
 use Rattle.sections.specs.declared.Role.TheVariants.{Formulas}
 use Rattle.sections.proofs.Fits.{neither, not-given, section-fine}
-use Rattle.sections.proofs.Parts.{fit-ended, fit-end, ended-size}
-use Rattle.sections.proofs.Answers.{passed_to, passed-fault, or_first, or_next}
+use Rattle.sections.proofs.Parts.{fit-ended, ended-size}
+use Rattle.sections.proofs.Answers.{or_first, or_next}
 use Rattle.files.specs.Files.{roles, roles_of, tag, index_of, has, place_of_role, section_of, fact_count, clauses_in}
 use Rattle.files.specs.Files.{fault_from, shape_fault}
 use Rattle.files.specs.Answers.{counts_of, noted, noted_from}
@@ -134,37 +137,44 @@ module _ (file : List ℕ) (F : ℕ) where
   }
 
   module _ {i at : ℕ} {n : Counts} (on : Onward file F i at n) where
-    module _ {r : Passed} (h : i < length (roles_of file))
-        (is : r ≡ passed (in_section (reader (get_or file 0 0) (get_or (roles_of file) i Formulas) F) file at) (end_at file at)
-        (entries (get_or (roles_of file) i Formulas) (payload file at))) where
-      here : drop i (roles_of file) ≡ get_or (roles_of file) i Formulas ∷ drop (suc i) (roles_of file)
-      here = drop-cons (roles_of file) i Formulas h
+    module _ (h : i < length (roles_of file)) where
+      here : drop i (roles_of file) ≡ get_or (roles_of file) i Sizes ∷ drop (suc i) (roles_of file)
+      here = drop-cons (roles_of file) i Sizes h
 
-      -- The section is fine: the records counted are no more than its bytes.
-      pub onward-few : {end count : ℕ} → r ≡ Passed.To end count → (n.goals + count ≤ end) × (end ≤ length file)
-      onward-few told =
-          let role = get_or (roles_of file) i Formulas in
-          let (fine, ends, counts) = passed_to _ _ _ _ _ is told in
-          let (fit, _) = section-fine (reader (get_or file 0 0) role F) file at fine in
-          let ended = fit-ended file at fit in
-          omega (arith, ended, ended-size file at _ ended, entries-few role (payload file at), on.few)
+      module _ {r : Result Passed NamedFault}
+          (is : told r
+          ≡ answer_or (in_section (reader (get_or file 0 0) (get_or (roles_of file) i Sizes) F) file at)
+          (record {
+            end = end_at file at;
+            count = entries (get_or (roles_of file) i Sizes) (payload file at);
+          })) where
+        -- The section is fine: the records counted are no more than its bytes.
+        pub onward-few : {p : Passed} → r ≡ Ok p → (n.goals + p.count ≤ p.end) × (p.end ≤ length file)
+        onward-few {p} fit-is =
+            let role = get_or (roles_of file) i Sizes in
+            let (fine, is') = told_ok _ _ p (ap told (sym fit-is) ∙ is) in
+            let (fit, _) = section-fine (reader (get_or file 0 0) role F) file at fine in
+            let ended = fit-ended file at fit in
+            rw is' (omega (arith, ended, ended-size file at _ ended, entries-few role (payload file at), on.few))
 
-      -- It comes to the next one.
-      pub onward-next : {end count : ℕ} → r ≡ Passed.To end count
-          → Onward file F (i + 1) end (noted n (get_or (roles_of file) i Formulas) count)
-      unfolding fault_from noted_from
-      onward-next {count} told =
-          let (fine, ends, counts) = passed_to _ _ _ _ _ is told in
-          record {
-            fault = on.fault ∙ rw (here, add-one i, ← ends) (or_next _ _ fine);
-            counts = on.counts ∙ rw (here, add-one i, ← ends, ← counts);
-            few = omega (arith, onward-few told, noted-few n (get_or (roles_of file) i Formulas) count);
-          }
+        -- It comes to the next one.
+        pub onward-next : {p : Passed} → r ≡ Ok p
+            → Onward file F (i + 1) p.end (noted n (get_or (roles_of file) i Sizes) p.count)
+        unfolding fault_from noted_from
+        onward-next {p} fit-is =
+            let (fine, is') = told_ok _ _ p (ap told (sym fit-is) ∙ is) in
+            let few = onward-few fit-is in
+            record {
+              fault = on.fault ∙ rw (here, add-one i, is') (or_next _ _ fine);
+              counts = on.counts ∙ rw (here, add-one i, is');
+              few = omega (arith, few, noted-few n (get_or (roles_of file) i Sizes) p.count);
+            }
 
-      -- It is at fault: that is the model's first fault.
-      pub onward-fault : {f : Fault} → r ≡ Passed.Fault f → shape_fault file ≡ some f
-      unfolding fault_from
-      onward-fault told = on.fault ∙ rw here (or_first _ _ _ (passed-fault _ _ _ _ is told))
+        -- It is at fault: that is the model's first fault.
+        pub onward-fault : {f : NamedFault} → r ≡ Err f → shape_fault file ≡ some (fault_of f)
+        unfolding fault_from
+        onward-fault {f} fit-is =
+            on.fault ∙ rw here (or_first _ _ _ (told_err _ _ f (ap told (sym fit-is) ∙ is)))
 
     module _ (h : length (roles_of file) ≤ i) where
       -- After the last section bytes are left over.
@@ -196,14 +206,14 @@ sizes-fine bytes e =
     (eqb-true _ _ (not-false _ (not-given _ _ two)), ltb-false _ _ (not-given _ _ small))
 
 -- Where the sizes are fine, their two bytes end at place 7 of the file.
-pub sizes-end : (F : ℕ) (file : List ℕ) (end : ℕ) → end ≡ cond (fits file 1) (end_at file 1) 0
-    → in_section (reader (get_or file 0 0) Sizes F) file 1 ≡ none → end ≡ 7
+pub sizes-end : (F : ℕ) (file : List ℕ) → in_section (reader (get_or file 0 0) Sizes F) file 1 ≡ none
+    → (fits file 1 ≡ true) × (end_at file 1 ≡ 7)
 unfolding reader
-sizes-end F file end found e =
+sizes-end F file e =
     let (fit, fine) = section-fine (reader (get_or file 0 0) Sizes F) file 1 e in
     let (two, small) = sizes-fine (payload file 1) (all-fine (sizes (payload file 1)) _ fine) in
-    let ended = fit-end file 1 fit found in
-    omega (arith, ended, ended-size file 1 _ ended)
+    let ended = fit-ended file 1 fit in
+    (fit, omega (arith, ended, ended-size file 1 _ ended))
 
 -- Bare numbers with no fault leave no byte over,
 pub bare-even : (names : Bool) (limit : ℕ) (bytes : List ℕ) → bare names limit bytes ≡ none → odd bytes ≡ false

@@ -1,10 +1,10 @@
 -- Laws on the sections that a model of a version has: each role has one place among them, and some are in every
 -- version.
-use Prim.Native.Nat.{ℕ, zero, suc, ◌+◌, ◌≤◌, ◌<◌}
+use Prim.Native.Nat.{ℕ, zero, suc, ◌≤◌, ◌<◌}
 use mathlib.Core.Path.{◌≡◌, refl, sym, ap, subst, ◌∙◌}
 use mathlib.Core.Logic.{⊎_elim}
 use mathlib.Core.Bool.{true, false, true≢false}
-use mathlib.Core.List.{List, [], ◌∷◌, ◌++◌, map}
+use mathlib.Core.List.{List, [], ◌∷◌, map}
 use native.Mathlib.Nat.{not-suc-le-zero, le_of_suc-le-suc}
 use native.Mathlib.Omega.{arith}
 use borrow.Author.Tests.{lt-ltb, ltb-true, eqb-true, lt-leb, le-leb, eq-eqb, ne_eqb}
@@ -128,56 +128,6 @@ absent-role file Clauses e = absurd (true≢false (sym (lt-ltb _ _ (always file)
 absent-role file Rules e = absurd (true≢false (sym (lt-ltb _ _ (always file).rules) ∙ e))
 absent-role file Goals e = absurd (true≢false (sym (lt-ltb _ _ (always file).goals) ∙ e))
 absent-role file Formulas e = formulas
-
--- ---- a version's sections among those of the latest
-
--- Whether the last role is there or not, past the other ones stands that role.
-last-role : (rs : List Role) (i : ℕ) → get_or rs i Formulas ≡ get_or (rs ++ Formulas ∷ []) i Formulas
-last-role [] zero = refl
-last-role [] (suc i) = refl
-last-role (r ∷ rs) zero = refl
-last-role (r ∷ rs) (suc i) = last-role rs i
-
--- The first two are the same in every version.
-pub first_two : (version i : ℕ) → i < 2 → get_or (roles version) i Formulas ≡ get_or (roles 4) i Formulas
-unfolding roles since
-first_two version zero h = refl
-first_two version (suc zero) h = refl
-first_two version (suc (suc i)) h = absurd (omega arith)
-
--- Version 1 lacks two of them after these,
-pub two_less : (version i : ℕ) → version < 2 → 2 ≤ i
-    → get_or (roles version) i Formulas ≡ get_or (roles 4) (i + 2) Formulas
-unfolding roles since
-two_less version zero h l = absurd (omega arith)
-two_less version (suc zero) h l = absurd (omega arith)
-two_less version (suc (suc i)) h l =
-    let on : suc (suc i) + 2 ≡ suc (suc (suc (suc i))) = omega arith in
-    rw (roles-one version h, on) (last-role one (suc (suc i)))
-
--- the third is the same from version 2 on,
-pub third_same : (version i : ℕ) → 2 ≤ version → 2 ≤ i → i < 3
-    → get_or (roles version) i Formulas ≡ get_or (roles 4) i Formulas
-unfolding roles since
-third_same version i h l k = let third : i ≡ 2 = omega arith in rw (third, le-leb 2 version h)
-
--- version 2 lacks one after it,
-pub one_less : (version i : ℕ) → 2 ≤ version → version < 3 → 3 ≤ i
-    → get_or (roles version) i Formulas ≡ get_or (roles 4) (i + 1) Formulas
-unfolding roles since
-one_less version zero h l k = absurd (omega arith)
-one_less version (suc zero) h l k = absurd (omega arith)
-one_less version (suc (suc zero)) h l k = absurd (omega arith)
-one_less version (suc (suc (suc i))) h l k =
-    let on : suc (suc (suc i)) + 1 ≡ suc (suc (suc (suc i))) = omega arith in
-    rw (roles-two version h l, on) (last-role two (suc (suc (suc i))))
-
--- and version 3 only the last.
-pub none_less : (version i : ℕ) → 3 ≤ version → get_or (roles version) i Formulas ≡ get_or (roles 4) i Formulas
-none_less version i h =
-    let last = roles-four 4 (omega arith) in
-    ⊎_elim (λ l. rw (roles-three version h l, last) (last-role three i)) (λ l. rw (roles-four version l, last))
-    (below_or_from version 4)
 
 -- There are at most eight.
 pub at-most-eight : (version : ℕ) → length (roles version) ≤ 8
@@ -304,3 +254,9 @@ pub record-there : (file : List ℕ) (r : Role) {k : ℕ} → k < length (record
 record-there file r h =
     there_or_absent file r (λ there. there)
     (λ absent. absurd (not-suc-le-zero (rw (section-absent file r absent, records-none) at h)))
+
+-- A place that there is has one role, whatever stands for none.
+pub at_any : (rs : List Role) (i : ℕ) (d e : Role) → i < length rs → get_or rs i d ≡ get_or rs i e
+at_any [] i d e h = absurd (not-suc-le-zero h)
+at_any (r ∷ rs) zero d e h = refl
+at_any (r ∷ rs) (suc i) d e h = at_any rs i d e (le_of_suc-le-suc h)

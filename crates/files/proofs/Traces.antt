@@ -14,7 +14,7 @@ use Rattle.sets.proofs.Laws.{both, passes, first-before}
 use Rattle.meaning.specs.Model.{aims}
 use Rattle.meaning.specs.Run.{named}
 use Rattle.records.specs.Words.{word, words, odd}
-use Rattle.records.specs.declared.Fault.{Fault}
+use Rattle.records.specs.Refusals.{Fault}
 use Rattle.records.specs.Records.{◌or_else◌}
 use Rattle.records.proofs.Words.{words-index, words-two, length-words, even-length}
 use Rattle.records.proofs.Judging.{or_clear}

@@ -3,7 +3,8 @@ use Rattle.std.specs.Prelude.{ℕ, zero, suc, ◌+◌, ◌-◌, ◌*◌, cond, L
 use Rattle.std.proofs.Math.Option.{Option, none, some}
 use Rattle.meaning.specs.Model.{aims}
 use Rattle.records.specs.Records.{records, place_of}
-use Rattle.records.specs.declared.Fault.{Fault}
+use Rattle.records.specs.Refusals.{refusal_number}
+use Rattle.std.specs.Prelude.{Result, Ok, Err}
 use Rattle.sections.specs.Sections.{end_at, section_at, payload, entries}
 use Rattle.sections.specs.declared.Role.{Role}
 use Rattle.sections.specs.declared.Role.TheVariants.{Sizes, Initial, Persistent, Names, Clauses, Rules, Goals}
@@ -11,10 +12,8 @@ use Rattle.sections.specs.declared.Role.TheVariants.{Formulas}
 use Rattle.files.specs.Files.{Blamed, place_of_role, section_of, model_of_lem}
 use Rattle.files.specs.Files.Blamed.{model, trace}
 use Rattle.files.specs.declared.Counts.{Counts}
-use Rattle.files.specs.declared.Heads.{Heads}
-use Rattle.files.specs.declared.Judged.{Judged}
-use Rattle.files.specs.declared.Pair.{Pair}
 use Rattle.files.specs.declared.Part.{Part}
+use Rattle.files.specs.declared.Refused.{Refused}
 
 -- ---- what was judged
 
@@ -28,11 +27,6 @@ counts_of file = record {
   goals = length (aims (model_of_lem file));
 }
 
--- the answer for a model: its fault, or those counts
-unfoldable pub judged : Option Fault → Counts → Judged
-judged none n = Judged.Fine n
-judged (some f) n = Judged.Fault f
-
 -- "handed back as a part of the model or of the trace itself, with a mark saying which": mark 0 is the model, 1 the
 -- trace
 unfoldable pub blamed_part : Blamed → Part
@@ -43,17 +37,23 @@ unfoldable pub blamed_number : Blamed → ℕ
 blamed_number (model f) = f.number
 blamed_number (trace f) = f.number
 
--- the answer for the sizes and versions of two files: their fault's number and part
-unfoldable pub headed : Option Blamed → Heads
-unfolding blamed_number blamed_part
-headed none = Heads.Fine
-headed (some b) = Heads.Fault (blamed_number b) (blamed_part b)
+-- both of a fault
+abbrev pub blamed_as : Blamed → ℕ × Part
+blamed_as b = (blamed_number b, blamed_part b)
 
--- the answer for a pair: its fault's number and part, or the model's counts
-unfoldable pub paired : Option Blamed → Counts → Pair
-unfolding blamed_number blamed_part
-paired none n = Pair.Fine n
-paired (some b) n = Pair.Fault (blamed_number b) (blamed_part b)
+-- a refusal of the code's, which has its name, as a number and a part
+abbrev pub refused_as : Refused → ℕ × Part
+refused_as r = (refusal_number r.refusal, r.part)
+
+-- what an answer says of it: its number and part, where there is one
+abbrev pub blame_in : {A : Type 0} → Result A Refused → Option (ℕ × Part)
+blame_in (Ok x) = none
+blame_in (Err r) = some (refused_as r)
+
+-- an answer with the number in the place of the name
+abbrev pub blamed : {A : Type 0} → Result A Refused → Result A (ℕ × Part)
+blamed (Ok x) = Ok x
+blamed (Err r) = Err (refused_as r)
 
 -- ---- parts
 

@@ -8,7 +8,7 @@ use Rattle.meaning.specs.Model.{Clause, Rule, Goal, Model, Trace, aims}
 use Rattle.meaning.specs.Past.{Formula}
 use Rattle.records.specs.Words.{word, words, odd}
 use Rattle.records.specs.Records.{given, ◌or_else◌, records, list_of, codes_in}
-use Rattle.records.specs.declared.Fault.{Fault}
+use Rattle.records.specs.Refusals.{Fault}
 use Rattle.records.specs.declared.Kind.TheVariants as kind
 use Rattle.formulas.specs.Codes.{formula_of}
 use Rattle.sections.specs.Sections.{end_at, in_section, left_over, all_of, payload, section_at, reader}

@@ -1,78 +1,79 @@
 // A pair of files: the first fault of both in document 01's order, stage by stage, and the bytes at fault.
 ghost use Rattle.std.specs.Prelude.{◌≡◌, take, drop};
+ghost use Rattle.std.proofs.Math.Option.{map};
+ghost use Rattle.records.specs.Refusals.{answer_or, fault_of};
 ghost use Rattle.files.specs.Files.{heads_fault, files_fault, steps_fault, pair_fault};
-ghost use Rattle.files.specs.Answers.{counts_of, headed, paired, part_of};
+ghost use Rattle.files.specs.Answers.{counts_of, blamed_as, refused_as, blame_in, blamed, part_of};
 
-use super::{Counts, Heads, Judged, Pair, Part, model, trace};
+use super::{Counts, Part, Refused, model, trace};
 use records::Fault;
-use sections::{Passed, head};
+use sections::head;
 
-// The part at fault of the file marked.
-fn blame(mark: u8, fault: Fault) -> Part
-    ensures { result ≡ record { mark = mark; start = fault.start; size = fault.size } }
+// A fault of the file marked.
+fn blame(mark: u8, fault: Fault) -> Refused
+    ensures { let f = fault_of fault in
+        refused_as result ≡ (f.number, record { mark = mark; start = f.start; size = f.size }) }
 {
-    Part {
-        mark,
-        start: fault.start,
-        size: fault.size,
-    }
-}
-
-// The first stage: 2 of both files, then 3 of both.
-pub fn judge_heads(model: &[u8], trace: &[u8]) -> Heads
-    ensures { result ≡ headed (heads_fault model.now trace.now) }
-{
-    let model_head = head::head_number(model, 65536, 4);
-    let trace_head = head::head_number(trace, 4096, 1);
-    if model_head == 2 {
-        return Heads::Fault(2, blame(0, head::long_fault(model)));
-    }
-    if trace_head == 2 {
-        return Heads::Fault(2, blame(1, head::long_fault(trace)));
-    }
-    if model_head == 3 {
-        return Heads::Fault(3, blame(0, head::version_fault(model)));
-    }
-    if trace_head == 3 {
-        return Heads::Fault(3, blame(1, head::version_fault(trace)));
-    }
-    Heads::Fine
-}
-
-// The first two stages: sizes and versions, then the model's 4 to 7. What a tool refuses for the model's sake comes
-// after these.
-pub fn judge_files(model: &[u8], trace: &[u8]) -> Pair
-    ensures { result
-        ≡ paired (files_fault model.now trace.now) (counts_of model.now) }
-{
-    match judge_heads(model, trace) {
-        Heads::Fault(number, part) => Pair::Fault(number, part),
-        Heads::Fine => match model::judge_shape(model) {
-            Judged::Fault(fault) => Pair::Fault(fault.number, blame(0, fault)),
-            Judged::Fine(counts) => Pair::Fine(counts),
+    Refused {
+        refusal: fault.refusal,
+        part: Part {
+            mark,
+            start: fault.start,
+            size: fault.size,
         },
     }
 }
 
+// The first stage: 2 of both files, then 3 of both.
+pub fn judge_heads(model: &[u8], trace: &[u8]) -> Result<(), Refused>
+    ensures { blame_in result ≡ map blamed_as (heads_fault model.now trace.now) }
+{
+    if let Err(fault) = head::check_size(model, 65536) {
+        return Err(blame(0, fault));
+    }
+    if let Err(fault) = head::check_size(trace, 4096) {
+        return Err(blame(1, fault));
+    }
+    if let Err(fault) = head::check_version(model, 4) {
+        return Err(blame(0, fault));
+    }
+    if let Err(fault) = head::check_version(trace, 1) {
+        return Err(blame(1, fault));
+    }
+    Ok(())
+}
+
+// The first two stages: sizes and versions, then the model's 4 to 7. What a tool refuses for the model's sake comes
+// after these.
+pub fn judge_files(model: &[u8], trace: &[u8]) -> Result<Counts, Refused>
+    ensures { blamed result ≡ answer_or (map blamed_as (files_fault model.now trace.now)) (counts_of model.now) }
+{
+    if let Err(refused) = judge_heads(model, trace) {
+        return Err(refused);
+    }
+    match model::judge_shape(model) {
+        Ok(counts) => Ok(counts),
+        Err(fault) => Err(blame(0, fault)),
+    }
+}
+
 // The last stage before the run, for a model of so many goals and rules: the trace's 4, 5 and 9.
-pub fn judge_steps(trace: &[u8], counts: Counts) -> Pair
-    ensures { result
-        ≡ paired (steps_fault counts.goals counts.rules trace.now) counts }
+pub fn judge_steps(trace: &[u8], counts: Counts) -> Result<Counts, Refused>
+    ensures { blamed result ≡ answer_or (map blamed_as (steps_fault counts.goals counts.rules trace.now)) counts }
 {
     match trace::judge_trace(trace, counts.goals, counts.rules) {
-        Passed::Fault(fault) => Pair::Fault(fault.number, blame(1, fault)),
-        Passed::To { end: _, count: _ } => Pair::Fine(counts),
+        Ok(_) => Ok(counts),
+        Err(fault) => Err(blame(1, fault)),
     }
 }
 
 // The pair: what comes before the trace's own numbers, then those.
-pub fn judge_pair(model: &[u8], trace: &[u8]) -> Pair
-    ensures { result
-        ≡ paired (pair_fault model.now trace.now) (counts_of model.now) }
+pub fn judge_pair(model: &[u8], trace: &[u8]) -> Result<Counts, Refused>
+    ensures { blamed result ≡ answer_or (map blamed_as (pair_fault model.now trace.now)) (counts_of model.now) }
 {
     match judge_files(model, trace) {
-        Pair::Fault(number, part) => Pair::Fault(number, part),
-        Pair::Fine(counts) => judge_steps(trace, counts),
+        Ok(counts) => judge_steps(trace, counts),
+        Err(refused) => Err(refused),
     }
 }
 

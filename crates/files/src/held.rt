@@ -14,7 +14,7 @@ ghost use Rattle.files.specs.Known.{KnownNames, GoalCodes};
 ghost use Rattle.files.specs.Answers.{record_part_lem, goal_part_lem};
 
 use super::{Part, model};
-use records::Kind;
+use records::{Kind, Records};
 use sections::{Role, head};
 
 // The place of a section's length.
@@ -22,17 +22,12 @@ fn place_of(model: &[u8], role: Role) -> usize
     requires { shape_fault model.now ≡ none }
     ensures { result ≡ place_of_role model.now role }
 {
-    let version = head::version_of(model);
-    let sections = model::section_count(version);
-    let tag = model::tag_of(role);
     let mut at = 1;
-    let mut i = 0;
-    while i < sections {
-        if model::tag_of(model::role_at(version, i)) == tag {
+    for &other in model::sections_of(head::version_of(model)) {
+        if other == role {
             return at;
         }
-        at = sections::section_end(model, at);
-        i += 1;
+        at = sections::section_end(model, at).unwrap();
     }
     at
 }
@@ -43,12 +38,10 @@ pub fn section(model: &[u8], role: Role) -> &[u8]
     ensures { result.now ≡ section_of model.now role }
 {
     let at = place_of(model, role);
-    let end = sections::section_end(model, at);
-    if end == 0 {
-        return &model[..0];
+    match sections::section_end(model, at) {
+        Some(end) => &model[at + 4..end],
+        None => &model[..0],
     }
-    let start = at + 4;
-    &model[start..end]
 }
 
 // F: the number in the sizes.
@@ -88,15 +81,7 @@ fn state_count(model: &[u8]) -> usize
     requires { shape_fault model.now ≡ none }
     ensures { result ≡ length (model_of_lem model.now).goals }
 {
-    let goals = section(model, Role::Goals);
-    let mut at = 0;
-    let mut n = 0;
-    while at < goals.len() {
-        let record = records::record_at(goals, at);
-        at += record.len();
-        n += 1;
-    }
-    n
+    Records(section(model, Role::Goals)).count()
 }
 
 // The part of the model that goal g's record is, an attack state's or a formula's.
@@ -158,6 +143,6 @@ pub fn entries(trace: &[u8]) -> &[u8]
     requires { fits trace.now (section_at trace.now 0) ≡ true }
     ensures { result.now ≡ entries_of trace.now }
 {
-    let end = sections::section_end(trace, 1);
+    let end = sections::section_end(trace, 1).unwrap();
     &trace[5..end]
 }

@@ -4,12 +4,14 @@
 
 #![tactic(auto)]
 
+ghost use Rattle.std.specs.Prelude.{◌≡◌};
+
 pub mod both;
 pub mod held;
 pub mod model;
 pub mod trace;
 
-use records::Fault;
+use records::Refusal;
 
 // How many clauses, rules and goals a judged model has, its attack states and formulas. With F in it too closing would
 // need more stack.
@@ -20,14 +22,8 @@ pub struct Counts {
     pub goals: usize,
 }
 
-// What a model is.
-#[derive(Clone, Copy)]
-pub enum Judged {
-    Fine(Counts),
-    Fault(Fault),
-}
-
-// A part of one of the two files: whose, 0 the model's or 1 the trace's, where it starts and how many bytes it has.
+// A part of one of the two files: whose, 0 the model's or 1 the trace's, where it starts and how many bytes it has. The
+// mark is a number, since C is handed it and may ask for any.
 #[derive(Clone, Copy)]
 pub struct Part {
     pub mark: u8,
@@ -35,16 +31,18 @@ pub struct Part {
     pub size: usize,
 }
 
-// What the sizes and versions of two files are.
+// A refusal of a pair of files: why, and the part at fault.
 #[derive(Clone, Copy)]
-pub enum Heads {
-    Fine,
-    Fault(u8, Part),
+pub struct Refused {
+    pub refusal: Refusal,
+    pub part: Part,
 }
 
-// What a pair of files is; at fault by a number, with the part at fault.
-#[derive(Clone, Copy)]
-pub enum Pair {
-    Fine(Counts),
-    Fault(u8, Part),
+// Its refusal, where no part is handed back.
+impl From<Refused> for Refusal {
+    ghost from_gives = { λ r k. k ≡ r.refusal };
+
+    fn from(refused: Refused) -> Refusal {
+        refused.refusal
+    }
 }

@@ -5,51 +5,50 @@ ghost use Rattle.records.specs.Words.{words};
 ghost use Rattle.sections.specs.Sections.{end_at};
 ghost use Rattle.files.specs.Files.{lacks, trace_fault, trace_of};
 ghost use Rattle.files.specs.Answers.{entry_part_lem};
-ghost use Rattle.sections.specs.Answers.{passed};
+ghost use Rattle.records.specs.Refusals.{told, answer_or};
 
 use super::Part;
-use records::Fault;
+use records::{Fault, Numbers, Refusal};
 use sections::Passed;
 
 // The trace's 4, 5 and 9, or how many steps it has, for a model with so many goals and rules.
-pub fn judge_trace(trace: &[u8], goals: usize, rules: usize) -> Passed
-    ensures { result ≡ passed (trace_fault goals rules trace.now) (end_at trace.now 1)
-        (length (trace_of trace.now).steps) }
+pub fn judge_trace(trace: &[u8], goals: usize, rules: usize) -> Result<Passed, Fault>
+    ensures { let file = trace.now in
+        told result ≡ answer_or (trace_fault goals rules file)
+        (record { end = end_at file 1; count = length (trace_of file).steps }) }
 {
-    let end = sections::section_end(trace, 1);
-    if end == 0 {
-        return Passed::Fault(sections::rest_fault(trace, 1));
-    }
+    let Some(end) = sections::section_end(trace, 1) else {
+        return Err(sections::rest_fault(trace, 1));
+    };
     let entries = &trace[5..end];
     let size = entries.len();
     if size < 2 || size % 2 == 1 {
-        return Passed::Fault(Fault {
-            number: 4,
+        return Err(Fault {
+            refusal: Refusal::Shape,
             start: 5,
             size,
         });
     }
     if end < trace.len() {
-        return Passed::Fault(sections::rest_fault(trace, end));
+        return Err(sections::rest_fault(trace, end));
     }
     let steps = size / 2 - 1;
     if 1024 < steps {
-        return Passed::Fault(Fault {
-            number: 5,
+        return Err(Fault {
+            refusal: Refusal::Count,
             start: 5,
             size,
         });
     }
     let at = lacking(entries, goals, rules);
     if at < size {
-        let start = 5 + at;
-        return Passed::Fault(Fault {
-            number: 9,
-            start,
+        return Err(Fault {
+            refusal: Refusal::Name,
+            start: 5 + at,
             size: 2,
         });
     }
-    Passed::To { end, count: steps }
+    Ok(Passed { end, count: steps })
 }
 
 // Where the first entry stands that names what the model lacks, the goal first and then the rules; the end
@@ -60,8 +59,8 @@ fn lacking(entries: &[u8], goals: usize, rules: usize) -> usize
 {
     let mut known = goals;
     let mut at = 0;
-    while 2 <= entries.len() - at {
-        if known <= records::word_at(entries, at) {
+    for number in Numbers(entries) {
+        if known <= number {
             return at;
         }
         known = rules;

@@ -2,15 +2,15 @@
 -- them.
 use Prim.Native.Nat.{ℕ, suc, ◌+◌, ◌-◌, ◌*◌, ◌≤◌, ◌<◌}
 use mathlib.Core.Path.{◌≡◌, refl, ap, ◌∙◌, sym}
-use mathlib.Core.Bool.{Bool, true, false, not, ◌&&◌, cond}
+use mathlib.Core.Bool.{true, false, true≢false}
+use Rattle.std.specs.Prelude.{MatchOption, IsSome, Some, None, Option as RustOption}
 use mathlib.Core.List.{List, [], ◌∷◌}
 use mathlib.Core.Option.{Option, none, some, map, none-ne-some}
 use native.Mathlib.Omega.{arith}
-use lib.Dec.{leb}
 use lib.ListN.{length, take, drop, length-drop}
 use lib.Seq.{get_or-drop, drop-drop, length-take-le}
-use borrow.Author.Tests.{le-leb, lt-leb, ne_eqb}
-use Rattle.records.specs.Words.{word, words, odd, ascending}
+use borrow.Author.Tests.{le-leb, lt-leb}
+use Rattle.records.specs.Words.{word}
 use Rattle.records.specs.Records.{records, bare, judge, first_from, first_fault_lem, place_of}
 use Rattle.records.specs.Refusals.{Fault}
 use Rattle.records.specs.declared.Kind.TheVariants as kind
@@ -112,6 +112,20 @@ module _ (file : List ℕ) (at : ℕ) where
   -- So it does where `section_end` says.
   pub fits-ended : (end : ℕ) → (fits file at ≡ true) × (end ≡ end_at file at) → Ended file at end
   fits-ended end (fit, is) = rw is (fit-ended fit)
+
+  -- Where the length fits, `section_end` has an end,
+  pub some_end : (o : RustOption ℕ)
+      → MatchOption o (fits file at ≡ false) (λ end. (fits file at ≡ true) × (end ≡ end_at file at))
+      → fits file at ≡ true → IsSome o
+  some_end None e fit = absurd (true≢false (sym fit ∙ e))
+  some_end (Some end) e fit = refl
+
+  -- and the section ends there.
+  pub end_some : (o : RustOption ℕ) (end : ℕ)
+      → MatchOption o (fits file at ≡ false) (λ end. (fits file at ≡ true) × (end ≡ end_at file at))
+      → o ≡ Some end → Ended file at end
+  end_some (Some x) end e is = let same : x ≡ end = cc in fits-ended end (rw (← same) e)
+  end_some None end e is = let z : ◌≡◌ {A = ℕ} 0 1 = cc in absurd (omega arith)
 
   -- ---- the answer for a section
 

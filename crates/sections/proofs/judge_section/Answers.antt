@@ -1,6 +1,5 @@
 -- The section doesn't fit, or what is found in its bytes stands at its place in the file.
 use native.Mathlib.Omega.{arith}
-use Rattle.std.proofs.Common.{rules}
 use Rattle.records.proofs.Laws.{told_ok, told_err}
 use Rattle.sections.proofs.Parts.{fits-ended, ended-bytes, ended-size, unfit-fault, fit-fault, reader-within}
 use Rattle.sections.proofs.judge_section.Goals as goal

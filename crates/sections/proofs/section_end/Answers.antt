@@ -1,8 +1,5 @@
 -- The tests are those of `fits`, and what they pass ends within the file.
-use mathlib.Core.Path.{◌≡◌}
 use native.Mathlib.Omega.{arith}
-use borrow.Author.Tests.{ltb-true, ltb-false}
-use Rattle.std.proofs.Common.{rules}
 use Rattle.sections.specs.Sections.{end_at}
 use Rattle.sections.proofs.Parts.{within-fits, beyond-fits}
 use Rattle.sections.proofs.section_end.Goals as goal

@@ -2,16 +2,23 @@
 -- determines every byte. Throughout, w is the width: the set lies in the first w bytes of its buffer.
 use Prim.Native.Nat.{ℕ, zero, suc, ◌+◌, ◌-◌, ◌*◌, ◌/◌, ◌%◌, ◌^◌, ◌≤◌, ◌<◌, zero-le, min}
 use mathlib.Core.Path.{◌≡◌, refl, sym, ap, ap₂, ◌∙◌}
-use mathlib.Core.Bool.{Bool, true, false, not, ◌&&◌, ◌||◌, cond, and-true, and-false, or-true, or-false}
+use mathlib.Core.Bool.{Bool, true, false, true≢false, false≢true, not, ◌&&◌, ◌||◌, cond}
+use mathlib.Core.Bool.{and-true, and-false, or-true, or-false}
 use mathlib.Core.Logic.{⊎_elim}
-use mathlib.Core.List.{List, [], ◌∷◌}
-use native.Mathlib.Nat.{add-sub_of_le}
+use mathlib.Core.List.{List, [], ◌∷◌, ◌++◌}
+use native.Mathlib.Nat.{add-sub_of_le, le_refl}
 use native.Mathlib.Omega.{arith}
-use lib.Dec.{T, eqb, eqb→eq, lit<}
-use lib.ListN.{length, get_or, take, drop, set, length-take, length-set, get_or-eq_default}
+use lib.Dec.{T, eqb, ltb, eqb→eq, lit<}
+use lib.ListN.{length, get_or, take, drop, set, replicate, length-take, length-drop, length-set, length-append}
+use lib.ListN.{get_or-append, get_or-eq_default}
 use lib.Seq.{ext_get_or, get_or-take, get_or-drop, get_or-set_same, get_or-set_other, take-set-lt, drop-set-lt}
 use lib.Count.{ones}
-use borrow.Author.Tests.{eqb-true, eqb-false, eq-eqb, ne_eqb, lt-ltb, le-ltb}
+use borrow.Author.Tests.{ltb-true, ltb-false, eqb-true, eqb-false, eq-eqb, ne_eqb, lt-ltb, le-ltb}
+use Rattle.std.specs.List.{list_any, sum_by}
+use Rattle.std.proofs.Common.{add-one}
+use Rattle.std.proofs.lemmas.List.{length-replicate, get_or-replicate, take_all}
+use Rattle.std.proofs.lemmas.List.Sums.{sum_by_more}
+use Rattle.std.proofs.lemmas.Slice.{drop-append-drop}
 use Rattle.sets.specs.Sets.{Facts, size}
 use Rattle.sets.proofs.Laws.{passes, fails, by-test, same_test, below_or_from}
 use Rattle.sets.proofs.Size.{size-add, size_same, size_below}
@@ -51,6 +58,12 @@ pub byte-none : (w : ℕ) (l : List ℕ) (i k : ℕ) → get_or l i 0 ≡ 0 → 
 byte-none w l i k e h =
     ⊎_elim (λ q. members-at w l i k q h ∙ ap (λ (b : ℕ). on b k) e ∙ on_none 0 0 k refl (omega arith))
     (λ q. beyond w l (i * 8 + k) (omega arith)) (below_or_from i w)
+
+-- Every entry among the first w is a byte.
+pub held_bytes : (w : ℕ) (l : List ℕ) → Bytes l → Bytes (take w l)
+held_bytes w l b i =
+    ⊎_elim (λ h. rw (get_or-take w l i 0 h) (b i))
+    (λ h. rw (get_or-eq_default (take w l) 0 {n = i} (omega (arith, length-take w l))) (lit< tt)) (below_or_from i w)
 
 -- A buffer has room for a number whose byte is among its first w.
 pub room_in : (w : ℕ) (l : List ℕ) (n : ℕ) → n / 8 < min w (length l) → room w l n ≡ true
@@ -162,20 +175,108 @@ cleared-zero {w} {l} {a} p z = record { set = λ g. ⊎_elim (here g) (lacking g
     lacking : (g : ℕ) → min w (length l) ≤ g / 8 → within w a g ≡ false
     lacking g h = missing w a g (omega (arith, p.as_long))
 
+-- To write 0 over the bytes that the set has is to clear it.
+pub cleared_zeros : (w : ℕ) (l : List ℕ) (n : ℕ) → n ≡ min w (length l) → Cleared w l (replicate n 0 ++ drop n l)
+cleared_zeros w l n e =
+    let zeros : List ℕ = replicate n 0 in
+    let long : length zeros ≡ n = length-replicate n _ in
+    cleared-zero
+    (record {
+      as_long = omega (arith, length-append zeros (drop n l), length-drop n l);
+      beyond = drop-append-drop n l zeros w (omega arith) long;
+    })
+    (λ i h. get_or-append zeros (drop n l) 0 i (omega arith) ∙ get_or-replicate n i 0 0 (omega arith))
+
 -- ---- `any_from`
 
-module _ (w : ℕ) (l : List ℕ) (i j : ℕ) (h : i < w) where
-  -- A byte that a shift by j leaves nothing of has no number from its bit j on.
-  pub none_from : get_or l i 0 / 2 ^ j ≡ 0 → (g : ℕ) → i * 8 + j ≤ g → g < i * 8 + 8 → within w l g ≡ false
+module _ (w : ℕ) (l : List ℕ) (i j : ℕ) where
+  -- A byte of the set that a shift by j leaves nothing of has no number from its bit j on.
+  pub none_from : get_or (take w l) i 0 / 2 ^ j ≡ 0 → (g : ℕ) → i * 8 + j ≤ g → g < i * 8 + 8 → within w l g ≡ false
+  unfolding within bit
   none_from e g lo hi =
-      members-byte w l g (omega arith) ∙ ap (λ (n : ℕ). on (get_or l n 0) (g % 8)) (omega arith)
-      ∙ on_none (get_or l i 0) j (g % 8) e (omega arith)
+      ap (λ (n : ℕ). on (get_or (take w l) n 0) (g % 8)) (omega arith)
+      ∙ on_none (get_or (take w l) i 0) j (g % 8) e (omega arith)
 
-  -- A byte that a shift by j leaves something of has a number from its bit j on.
-  pub some-from : get_or l i 0 < 256 → j < 8 → 0 < get_or l i 0 / 2 ^ j → (g : ℕ) × (i * 8 + j ≤ g) × T (within w l g)
+  -- A byte of the set that a shift by j leaves something of has a number from its bit j on.
+  pub some-from : Bytes l → j < 8 → 0 < get_or (take w l) i 0 / 2 ^ j → (g : ℕ) × (i * 8 + j ≤ g) × T (within w l g)
+  unfolding within bit
   some-from b hj p =
-      let (k, from, low, t) = on_some (get_or l i 0) j b hj p in
-      (i * 8 + k, omega arith, rw (members-at w l i k h low) t)
+      let (k, from, low, t) = on_some (get_or (take w l) i 0) j (held_bytes w l b i) hj p in
+      let same : within w l (i * 8 + k) ≡ on (get_or (take w l) i 0) k =
+      ap₂ (λ (n m : ℕ). on (get_or (take w l) n 0) m) (omega arith) (omega arith) in
+      (i * 8 + k, omega arith, rw same t)
+
+-- Where some entry of a list is not 0, there is an index of one.
+not_zero : (xs : List ℕ) → list_any (ltb 0) xs ≡ true → (k : ℕ) × (0 < get_or xs k 0)
+not_zero [] e = absurd (false≢true e)
+not_zero (x ∷ xs) e =
+    by-test (ltb 0 x) (λ h. (0, ltb-true 0 x h)) (λ h. let (k, p) = not_zero xs (rw h at e) in (suc k, p))
+
+-- Where none is, each one is 0.
+each_zero : (xs : List ℕ) → list_any (ltb 0) xs ≡ false → (k : ℕ) → get_or xs k 0 ≡ 0
+each_zero [] e k = refl
+each_zero (x ∷ xs) e k =
+    by-test (ltb 0 x) (λ h. absurd (true≢false (rw h at e)))
+    (λ h.
+    elim k as (λ k. get_or (x ∷ xs) k 0 ≡ 0)
+    [ zero ↦ omega (arith, ltb-false 0 x h) | suc i ↦ each_zero xs (rw h at e) i ])
+
+-- With the bytes of the set from that of `from` on: a number of `from` or more is in the first one, past those below
+-- it, or in a later one.
+pub any_part : (w : ℕ) (l : List ℕ) (from : ℕ) (part : List ℕ) → Bytes l → part ≡ drop (from / 8) (take w l)
+    → AnyFrom w l from (ltb 0 (get_or part 0 0 / 2 ^ (from % 8)) || list_any (ltb 0) (drop 1 part))
+any_part w l from part b e = by-test (ltb 0 here) first (λ h. by-test (list_any (ltb 0) later) (second h) (neither h))
+  where
+    later : List ℕ
+    later = drop 1 part
+
+    here : ℕ
+    here = get_or part 0 0 / 2 ^ (from % 8)
+
+    at : (k : ℕ) → get_or part k 0 ≡ get_or (take w l) (from / 8 + k) 0
+    at k = rw e (get_or-drop (from / 8) (take w l) k 0)
+
+    at_later : (k : ℕ) → get_or later k 0 ≡ get_or (take w l) (from / 8 + (1 + k)) 0
+    at_later k = get_or-drop 1 part k 0 ∙ at (1 + k)
+
+    found : (i j : ℕ) → from ≤ i * 8 + j → j < 8 → 0 < get_or (take w l) i 0 / 2 ^ j → AnyFrom w l from true
+    found i j lo hj p =
+        let (g, after, t) = some-from w l i j b hj p in
+        record { none = λ q. absurd (true≢false q); some = λ _. (g, omega arith, t) }
+
+    first : ltb 0 here ≡ true → AnyFrom w l from (ltb 0 here || list_any (ltb 0) later)
+    first h =
+        rw h (found (from / 8 + 0) (from % 8) (omega arith) (omega arith) (rw (at 0) at (ltb-true 0 here h)))
+
+    second : ltb 0 here ≡ false → list_any (ltb 0) later ≡ true
+        → AnyFrom w l from (ltb 0 here || list_any (ltb 0) later)
+    second h q =
+        let (k, p) = not_zero later q in
+        rw (h, q) (found (from / 8 + (1 + k)) 0 (omega arith) (lit< tt) (omega (arith, at_later k)))
+
+    past : list_any (ltb 0) later ≡ false → (i : ℕ) → from / 8 + 1 ≤ i → get_or (take w l) i 0 ≡ 0
+    past q i h =
+        let k : i ≡ from / 8 + (1 + (i - (from / 8 + 1))) = omega arith in
+        ap (λ (k : ℕ). get_or (take w l) k 0) k ∙ sym (at_later (i - (from / 8 + 1)))
+        ∙ each_zero later q (i - (from / 8 + 1))
+
+    neither : ltb 0 here ≡ false → list_any (ltb 0) later ≡ false
+        → AnyFrom w l from (ltb 0 here || list_any (ltb 0) later)
+    neither h q =
+        let none : get_or (take w l) (from / 8 + 0) 0 / 2 ^ (from % 8) ≤ 0 = rw (at 0) at (ltb-false 0 here h) in
+        rw (h, q)
+        (record {
+          none = λ _ g lo. ⊎_elim
+              (none_from w l (from / 8 + 0) (from % 8) (omega arith) g (omega arith))
+              (λ p. none_from w l (g / 8) 0 (omega (arith, past q (g / 8) (omega arith))) g (omega arith) (omega arith))
+              (below_or_from g ((from / 8 + 0) * 8 + 8));
+          some = λ p. absurd (false≢true p);
+        })
+
+-- Where the set ends before the byte of `from`, it has no such number.
+pub none_past : (w : ℕ) (l : List ℕ) (from : ℕ) → min w (length l) ≤ from / 8 → AnyFrom w l from false
+none_past w l from h =
+    record { none = λ _ g lo. missing w l g (omega arith); some = λ e. absurd (false≢true e) }
 
 -- ---- the count
 
@@ -185,11 +286,28 @@ pub count-byte : (w : ℕ) (l : List ℕ) (i : ℕ) → i < w → get_or l i 0 <
 count-byte w l i h b =
     size-add (within w l) (i * 8) 8
     ∙ ap (λ (s : ℕ). s + size (within w l) (i * 8))
-    (size_same (λ k. within w l (i * 8 + k)) (on (get_or l i 0)) 8 (λ k. members-at w l i k h) ∙ size-on (get_or l i 0) b)
+    (size_same (λ k. within w l (i * 8 + k)) (on (get_or l i 0)) 8 (λ k. members-at w l i k h)
+    ∙ size-on (get_or l i 0) b)
 
 -- The bytes that the buffer has hold the whole count.
 pub count-all : (w : ℕ) (l : List ℕ) → size (within w l) (8 * w) ≡ size (within w l) (min w (length l) * 8)
 count-all w l = size_below (within w l) _ _ (omega arith) (λ k h. missing w l k (omega arith))
+
+-- The ones of the bytes that the set has are its size.
+pub count_ones : (w : ℕ) (l : List ℕ) → Bytes l → sum_by ones (take w l) ≡ size (within w l) (8 * w)
+unfolding size
+count_ones w l b =
+    let all = upto (length (take w l)) (le_refl _) in
+    ap (sum_by ones) (sym (take_all (length (take w l)) (take w l) (le_refl _))) ∙ all
+    ∙ ap (λ (n : ℕ). size (within w l) (n * 8)) (length-take w l) ∙ sym (count-all w l)
+  where
+    upto : (i : ℕ) → i ≤ length (take w l) → sum_by ones (take i (take w l)) ≡ size (within w l) (i * 8)
+    upto zero h = refl
+    upto (suc i) h =
+        let low : i < w = omega (arith, length-take w l) in
+        let more : (i + 1) * 8 ≡ i * 8 + 8 = omega arith in
+        rw (← add-one i, sum_by_more ones (take w l) i 0 h, upto i (omega arith), get_or-take w l i 0 low)
+        (omega (arith, count-byte w l i low (b i), ap (size (within w l)) more))
 
 -- ---- what a buffer can hold
 

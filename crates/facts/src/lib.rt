@@ -4,16 +4,15 @@
 
 #![tactic(auto)]
 
-ghost use Rattle.std.specs.Prelude.{◌≡◌, ◌*◌, ◌%◌, ◌^◌, min};
+ghost use Rattle.std.specs.Prelude.{◌≡◌, ◌*◌, ◌%◌, ◌^◌, take};
 ghost use Rattle.sets.specs.Sets.{size};
 ghost use Rattle.facts.specs.Facts.{within, Added, Removed, Cleared, AnyFrom};
 
-// How many bytes of a buffer the set has: every index into a buffer is checked against this.
-fn held(len: usize, width: u32) -> usize
-    ensures { result ≡ min width len }
+// The bytes of a buffer that the set has: every index into a buffer is checked against these.
+fn held(set: &[u8], width: u32) -> &[u8]
+    ensures { result.now ≡ take width set.now }
 {
-    let most = width as usize;
-    if len < most { len } else { most }
+    &set[..set.len().min(width as usize)]
 }
 
 // The bit of a number in its byte.
@@ -27,21 +26,19 @@ fn mask(n: usize) -> u8
 pub fn has(set: &[u8], width: u32, n: usize) -> bool
     ensures { result ≡ within width set.now n }
 {
-    let i = n / 8;
-    if i < held(set.len(), width) {
-        set[i] & mask(n) != 0
-    } else {
-        false
+    match held(set, width).get(n / 8) {
+        Some(byte) => *byte & mask(n) != 0,
+        None => false,
     }
 }
 
 // Puts the number into the set, where the buffer has its byte.
+// By index, as `remove` is: the library's `get_mut` says nothing of what the slice ends as.
 pub fn add(set: &mut [u8], width: u32, n: usize)
     ensures { Added width set.old n set.new }
 {
-    let i = n / 8;
-    if i < held(set.len(), width) {
-        set[i] = set[i] | mask(n);
+    if n / 8 < held(set, width).len() {
+        set[n / 8] |= mask(n);
     }
 }
 
@@ -49,9 +46,8 @@ pub fn add(set: &mut [u8], width: u32, n: usize)
 pub fn remove(set: &mut [u8], width: u32, n: usize)
     ensures { Removed width set.old n set.new }
 {
-    let i = n / 8;
-    if i < held(set.len(), width) {
-        set[i] = set[i] & !mask(n);
+    if n / 8 < held(set, width).len() {
+        set[n / 8] &= !mask(n);
     }
 }
 
@@ -59,26 +55,16 @@ pub fn remove(set: &mut [u8], width: u32, n: usize)
 pub fn clear(set: &mut [u8], width: u32)
     ensures { Cleared width set.old set.new }
 {
-    let all = held(set.len(), width);
-    let mut i = 0;
-    while i < all {
-        set[i] = 0;
-        i += 1;
-    }
+    let all = held(set, width).len();
+    set[..all].fill(0);
 }
 
 // How many numbers are in the set.
 pub fn count(set: &[u8], width: u32) -> usize
     ensures { result ≡ size (within width set.now) (8 * width) }
 {
-    let bytes = held(set.len(), width);
-    let mut found: usize = 0;
-    let mut i = 0;
-    while i < bytes {
-        found += u32::count_ones(set[i] as u32) as usize;
-        i += 1;
-    }
-    found
+    let bytes = held(set, width);
+    bytes.iter().map(|byte| byte.count_ones() as usize).sum()
 }
 
 // Whether a number of `from` or more is in the set: the first byte is shifted past the numbers below `from`, and each
@@ -86,16 +72,11 @@ pub fn count(set: &[u8], width: u32) -> usize
 pub fn any_from(set: &[u8], width: u32, from: usize) -> bool
     ensures { AnyFrom width set.now from result }
 {
-    let end = held(set.len(), width);
-    let mut i = from / 8;
-    let mut skip = from % 8;
-    while i < end {
-        let rest = set[i] >> skip;
-        if rest > 0 {
-            return true;
-        }
-        skip = 0;
-        i += 1;
+    let Some(part) = held(set, width).get(from / 8..) else {
+        return false;
+    };
+    match part {
+        [first, later @ ..] => *first >> (from % 8) > 0 || later.iter().any(|byte| *byte > 0),
+        [] => false,
     }
-    false
 }

@@ -1,0 +1,17 @@
+-- `facts::remove` meets its contract: the mask clears the number's bit, and a number without a byte is not in the set.
+use mathlib.Core.Path.{ap, ◌∙◌}
+use native.Mathlib.Omega.{arith}
+use lib.ListN.{length, length-take}
+use Rattle.facts.proofs.Laws.{removed-set, removed-missing}
+use Rattle.facts.proofs.remove.Goals as goal
+
+pub returns-then-n-held : goal.returns-then-n-held
+returns-then-n-held c =
+    let long = ap length c.held.ensures ∙ length-take c.args.width c.args.set.now in
+    rw c.mask.ensures
+    (removed-set c.args.width c.args.set.now c.args.n (omega (arith, long)) (omega arith))
+
+pub returns-else-n-held : goal.returns-else-n-held
+returns-else-n-held c =
+    let long = ap length c.held.ensures ∙ length-take c.args.width c.args.set.now in
+    removed-missing c.args.width c.args.set.now c.args.n (omega (arith, long))

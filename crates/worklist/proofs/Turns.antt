@@ -213,7 +213,7 @@ module _ {cs : List Clause} {S : Facts} (known : Known cs S) {g at c : ℕ} {a :
           let less : number_in a.table f < number_in a.table g = rw (number-low a.table f first-low) l in
           let done = toward-next known b.toward first-waits less in
           let count : (cross_all_lem cs (suc (number_in a.table f)) (entries_from_lem 0 cs f) (said a (suc at) c)).crossings
-              ≡ c + length entries =
+          ≡ c + length entries =
           omega (arith, done.sound.crossings, within.crossings, ap length these)
           in
           rw (add-one, ← count)

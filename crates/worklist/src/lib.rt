@@ -162,12 +162,12 @@ impl Worklist {
             self.lacks[k] = body;
             least = least.min(body);
         }
-        if let Some(last) = clauses.starts.last() {
-            let body = ((records::word_at(clauses.bytes, *last as usize) - 2) / 2) as u8;
-            self.lacks[clauses.starts.len() - 1] = body;
-            least = least.min(body);
-        }
-        least
+        let Some(last) = clauses.starts.last() else {
+            return least;
+        };
+        let body = ((records::word_at(clauses.bytes, *last as usize) - 2) / 2) as u8;
+        self.lacks[clauses.starts.len() - 1] = body;
+        least.min(body)
     }
 
     // The heads of clauses with an empty body arrive in round 1, once the facts of the state wait.

@@ -29,15 +29,14 @@ pub loop-k-preserved : goal.loop-k-preserved
 loop-k-preserved c =
     let steps = c.in-Some.ensures.steps in
     let (next, finite, size, left, some, noted, same) = c.loop-k.invariant in
-    let two = two-starts _ c.requires.0 c.requires.1 size left steps.0.1.0 steps.0.1.1 in
-    (
+    let two = two-starts _ c.requires.0 c.requires.1 size left steps.0.1.0 steps.0.1.1 in (
       search rules,
       search rules,
       steps.0.0 ∙ size,
       rw steps.2 (steps.0.1.2 ∙ ap (drop 1) left ∙ drop-drop 1 (enumerate_count c.loop-k.k-iterator) c.args.clauses.starts.now),
       omega (arith, steps.2, two.more),
       rw (steps.2, steps.1)
-      (noted-next noted two.number (omega (arith, two.more, c.requires.3)) (omega (arith, two.ends)) (omega (arith, c.min-least.ensures)) (omega (arith, c.min-least.ensures))),
+          (noted-next noted two.number (omega (arith, two.more, c.requires.3)) (omega (arith, two.ends)) (omega arith) (omega arith)),
       same,
     )
 
@@ -46,20 +45,20 @@ word_at-requires c =
     let there = clause-last _ c.requires.0 c.requires.1 c.in-Some-last.ensures.item.3 in
     omega (arith, there.fits)
 
-pub overflow_sub-body-in-Some-last : goal.overflow_sub-body-in-Some-last
-overflow_sub-body-in-Some-last c =
+pub overflow_sub-body-2 : goal.overflow_sub-body-2
+overflow_sub-body-2 c =
     let there = clause-last _ c.requires.0 c.requires.1 c.in-Some-last.ensures.item.3 in
     omega (arith, there.size, c.word_at.ensures)
 
-pub overflow_cast-body-in-Some-last : goal.overflow_cast-body-in-Some-last
-overflow_cast-body-in-Some-last c =
+pub overflow_cast-body-2 : goal.overflow_cast-body-2
+overflow_cast-body-2 c =
     let there = clause-last _ c.requires.0 c.requires.1 c.in-Some-last.ensures.item.3 in
     let count = c.requires.1.count in
     let some = c.in-Some-last.ensures.item.3.0 in
     omega (arith, there.size, c.word_at.ensures, c.requires.2 _ (clause_in _ (length c.args.clauses.starts.now - 1) (omega arith)))
 
-pub returns-in-Some-last : goal.returns-in-Some-last
-returns-in-Some-last c =
+pub returns : goal.returns
+returns c =
     let there = clause-last _ c.requires.0 c.requires.1 c.in-Some-last.ensures.item.3 in
     let count = c.requires.1.count in
     let some = c.in-Some-last.ensures.item.3.0 in
@@ -68,7 +67,7 @@ returns-in-Some-last c =
     omega (arith, c.in-None.ensures.steps.0.1.0, size, ap length left, length-drop (enumerate_count c.loop-k.k-iterator) c.args.clauses.starts.now)
     in (
       noted-end
-      (noted-next (rw last at noted) (omega arith) (omega (arith, c.requires.3)) (omega (arith, there.size, c.word_at.ensures)) (omega (arith, c.min-least-in-Some-last.ensures)) (omega (arith, c.min-least-in-Some-last.ensures)))
-      (omega arith),
+          (noted-next (rw last at noted) (omega arith) (omega (arith, c.requires.3)) (omega (arith, there.size, c.word_at.ensures)) (omega arith) (omega arith))
+          (omega arith),
       same,
     )

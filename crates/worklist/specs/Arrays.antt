@@ -19,7 +19,7 @@ arrays lacks table queue n = record { lacks = lacks; table = table; queue = queu
 
 -- what the worklist keeps, and the table beside it
 abbrev pub held : Worklist → List ℕ → Arrays
-held w table = arrays w.lacks table w.queue.facts w.queue.n
+held w table = arrays w.lacks.now table w.queue.facts.now w.queue.n
 
 -- a fact's number; only facts below 4,096 have one
 unfoldable pub number_in : List ℕ → ℕ → ℕ

@@ -52,7 +52,7 @@ struct Section<'a> {
     starts: &'a [u16],
 }
 
-impl<'a> Section<'a> {
+impl Section<'_> {
     // The head of clause k, which stands after its record's length.
     fn head(self, k: usize) -> usize
         requires { AllCut Kind.Clause self.bytes.now × Placed self.bytes.now self.starts.now
@@ -74,18 +74,19 @@ fn number(table: &[u16], f: usize) -> u16
     if f < 4096 { table[f] } else { OUTSIDE }
 }
 
-// The facts that have arrived, in that order, and how many they are.
+// The facts that have arrived, in that order, and how many they are. The array is lent: beside one of its own the count
+// stays in memory, and a closing in which many facts arrive at once takes a tenth longer.
 #[derive(Drop)]
-struct Queue {
-    facts: [u16; 4096],
+struct Queue<'a> {
+    facts: &'a mut [u16; 4096],
     n: usize,
 }
 
-impl Queue {
+impl Queue<'_> {
     // The facts of the state wait, ascending.
     fn gather(&mut self, table: &[u16])
-        requires { 4096 ≤ length table.now }
-        ensures { Gathered (state_in table.now) self.new.n self.new.facts }
+        requires { (4096 ≤ length table.now) × (length self.old.facts.now ≡ 4096) }
+        ensures { Gathered (state_in table.now) self.new.n self.new.facts.now }
     {
         let mut n = 0;
         for (f, round) in table[..4096].iter().enumerate() {
@@ -102,8 +103,8 @@ impl Queue {
     fn arrive(&mut self, f: usize, r: u16, table: &mut [u16])
         requires { (f < 4096) × (4096 ≤ length table.old)
             × (get_or table.old f 0 ≡ 65535 → self.old.n < 4096) }
-        ensures { Arrives f r table.old self.old.facts self.old.n table.new
-            self.new.facts self.new.n }
+        ensures { Arrives f r table.old self.old.facts.now self.old.n table.new
+            self.new.facts.now self.new.n }
     {
         if table[f] == OUTSIDE {
             table[f] = r;
@@ -115,11 +116,11 @@ impl Queue {
     // The fact at a place of the queue, where one waits there that arose sooner than the one asked for, which has not
     // arrived as long as it has no number.
     fn next_before(&self, at: usize, table: &[u16], asked: usize) -> Option<usize>
-        requires { (self.now.n ≤ 4096) × (4096 ≤ length table.now)
-            × ((i : ℕ) → i < self.now.n → get_or self.now.facts i 0 < 4096) }
+        requires { (self.now.n ≤ 4096) × (length self.now.facts.now ≡ 4096) × (4096 ≤ length table.now)
+            × ((i : ℕ) → i < self.now.n → get_or self.now.facts.now i 0 < 4096) }
         ensures { result
-            ≡ cond (waits_for asked table.now self.now.facts self.now.n at)
-            (Some (get_or self.now.facts at 0)) None }
+            ≡ cond (waits_for asked table.now self.now.facts.now self.now.n at)
+            (Some (get_or self.now.facts.now at 0)) None }
     {
         let f = *self.facts[..self.n].get(at)? as usize;
         (table[f] < number(table, asked)).then_some(f)
@@ -127,9 +128,9 @@ impl Queue {
 
     // The round of the latest arrival, 0 where none arrived.
     fn latest(&self, table: &[u16]) -> usize
-        requires { (self.now.n ≤ 4096) × (4096 ≤ length table.now)
-            × ((i : ℕ) → i < self.now.n → get_or self.now.facts i 0 < 4096) }
-        ensures { result ≡ latest_in table.now self.now.facts self.now.n }
+        requires { (self.now.n ≤ 4096) × (length self.now.facts.now ≡ 4096) × (4096 ≤ length table.now)
+            × ((i : ℕ) → i < self.now.n → get_or self.now.facts.now i 0 < 4096) }
+        ensures { result ≡ latest_in table.now self.now.facts.now self.now.n }
     {
         match self.facts[..self.n].last() {
             Some(f) => table[*f as usize] as usize,
@@ -140,21 +141,22 @@ impl Queue {
 
 // What the worklist keeps: what each clause still lacks, and the facts that have arrived.
 #[derive(Drop)]
-struct Worklist {
-    lacks: [u8; 4096],
-    queue: Queue,
+struct Worklist<'a, 'b> {
+    lacks: &'a mut [u8; 4096],
+    queue: Queue<'b>,
 }
 
-impl Worklist {
+impl Worklist<'_, '_> {
     // What each clause lacks at first, which is its body; answers a number that no clause lacks less than. A record is
     // its length, its head and its body's facts, 2 bytes each, and ends where the next one starts: but for the last
     // clause none is looked at, and one store serves many.
     fn bodies(&mut self, clauses: Section) -> u8
         requires { AllCut Kind.Clause clauses.bytes.now × Placed clauses.bytes.now clauses.starts.now
             × Short (clauses_in clauses.bytes.now) × (length clauses.starts.now ≤ 4096)
-            × ((k : ℕ) → get_or self.old.lacks k 0 ≡ 0) }
-        ensures { Lacking (clauses_in clauses.entry.bytes.now) result self.new.lacks
-            × (self.new.queue ≡ self.old.queue) }
+            × (length self.old.lacks.now ≡ 4096) × ((k : ℕ) → get_or self.old.lacks.now k 0 ≡ 0) }
+        ensures { Lacking (clauses_in clauses.entry.bytes.now) result self.new.lacks.now
+            × (self.new.queue.facts.now ≡ self.old.queue.facts.now)
+            × (self.new.queue.n ≡ self.old.queue.n) }
     {
         let mut least: u8 = 255;
         for (k, w) in clauses.starts.windows(2).enumerate() {
@@ -174,8 +176,8 @@ impl Worklist {
     fn unasked(&mut self, clauses: Section, table: &mut [u16])
         requires { Judged clauses.bytes.now (state_in table.old)
             × Placed clauses.bytes.now clauses.starts.now
-            × Lacking (clauses_in clauses.bytes.now) 0 self.old.lacks
-            × Begun table.old × Gathered (state_in table.old) self.old.queue.n self.old.queue.facts }
+            × Lacking (clauses_in clauses.bytes.now) 0 self.old.lacks.now
+            × Begun table.old × Gathered (state_in table.old) self.old.queue.n self.old.queue.facts.now }
         ensures { Starts (clauses_in clauses.entry.bytes.now) (state_in table.old) table.old
             (held self.new table.new) }
     {
@@ -192,8 +194,8 @@ impl Worklist {
     fn start(&mut self, clauses: Section, table: &mut [u16])
         requires { Judged clauses.bytes.now (state_in table.old)
             × Placed clauses.bytes.now clauses.starts.now
-            × ((k : ℕ) → get_or self.old.lacks k 0 ≡ 0)
-            × Begun table.old × Gathered (state_in table.old) self.old.queue.n self.old.queue.facts }
+            × (length self.old.lacks.now ≡ 4096) × ((k : ℕ) → get_or self.old.lacks.now k 0 ≡ 0)
+            × Begun table.old × Gathered (state_in table.old) self.old.queue.n self.old.queue.facts.now }
         ensures { Starts (clauses_in clauses.entry.bytes.now) (state_in table.old) table.old
             (held self.new table.new) }
     {
@@ -274,10 +276,12 @@ pub fn run(clauses: &[u8], table: &mut [u16], index: Index, asked: usize) -> Wor
         bytes: clauses,
         starts: index.starts,
     };
+    let mut lacks = [0u8; 4096];
+    let mut facts = [0u16; 4096];
     let mut work = Worklist {
-        lacks: [0; 4096],
+        lacks: &mut lacks,
         queue: Queue {
-            facts: [0; 4096],
+            facts: &mut facts,
             n: 0,
         },
     };

@@ -1,4 +1,4 @@
-use Rattle.std.proofs.Common.{◌∙◌, sym}
+use Rattle.std.proofs.Common.{◌∙◌, sym, refl}
 use Rattle.worklist.proofs.Turns.{between_start}
 use Rattle.worklist.proofs.Laws.{zeros_at, closes_from, closes_stored, not-stored}
 use Rattle.worklist.proofs.run.Goals as goal
@@ -10,7 +10,7 @@ returns-then-number-eq0 c = closes_stored c.requires.begun _ (sym c.number.ensur
 pub start-requires : goal.start-requires
 start-requires c =
     let pre = c.requires in
-    (pre.judged, pre.places, zeros_at 4096, pre.begun, c.gather.ensures)
+    (pre.judged, pre.places, refl, zeros_at 4096, pre.begun, c.gather.ensures)
 
 pub drain-requires : goal.drain-requires
 drain-requires c =

@@ -6,7 +6,7 @@ use Rattle.worklist.proofs.Queue.gather.Goals as goal
 use Rattle.worklist.proofs.Queue.gather.Goals.{then-round-eq0, else-round-eq0}
 
 pub loop-f-init : goal.loop-f-init
-loop-f-init c = gathering_start _ _ (search rules)
+loop-f-init c = gathering_start _ _ c.requires.1
 
 pub bounds-self-n : goal.bounds-self-n
 bounds-self-n c = omega (arith, length-take 4096 c.args.table.now)

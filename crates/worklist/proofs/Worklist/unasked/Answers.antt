@@ -16,7 +16,7 @@ pub arrive-requires : goal.arrive-requires
 arrive-requires c =
     let pre = c.requires in
     let inside : c.loop-k.k < length (clauses_in c.args.clauses.bytes.now) =
-    omega (arith, pre.1.count, length-take (length c.args.clauses.starts.now) c.args.self.now.lacks) in
+    omega (arith, pre.1.count, length-take (length c.args.clauses.starts.now) c.args.self.now.lacks.now) in
     let known = pre.0.known in
     let opened = c.loop-k.invariant in
     rw c.head.ensures (known.heads _ (clause_in _ _ inside), opened.fits.table, opened-room known opened inside)
@@ -25,10 +25,10 @@ pub loop-k-preserved : goal.loop-k-preserved
 loop-k-preserved c =
     let pre = c.requires in
     let inside : c.loop-k.k < length (clauses_in c.args.clauses.bytes.now) =
-    omega (arith, pre.1.count, length-take (length c.args.clauses.starts.now) c.args.self.now.lacks) in
+    omega (arith, pre.1.count, length-take (length c.args.clauses.starts.now) c.args.self.now.lacks.now) in
     let known = pre.0.known in
     let opened = c.loop-k.invariant in
-    let left = get_or-take (length c.args.clauses.starts.now) c.args.self.now.lacks c.loop-k.k 0 (omega (arith, inside)) ∙ pre.2.bodies c.loop-k.k in
+    let left = get_or-take (length c.args.clauses.starts.now) c.args.self.now.lacks.now c.loop-k.k 0 (omega (arith, inside)) ∙ pre.2.bodies c.loop-k.k in
     elim c.if-left-eq0.branch [
       | then-left-eq0 w ↦
           rw (w.table-is, w.queue-is)
@@ -40,4 +40,4 @@ loop-k-preserved c =
 pub returns : goal.returns
 returns c =
     let pre = c.requires in
-    opened-end pre.0.known c.loop-k.invariant (omega (arith, pre.1.count, length-take (length c.args.clauses.starts.now) c.args.self.now.lacks)) pre.2
+    opened-end pre.0.known c.loop-k.invariant (omega (arith, pre.1.count, length-take (length c.args.clauses.starts.now) c.args.self.now.lacks.now)) pre.2

@@ -8,4 +8,4 @@ use Rattle.worklist.proofs.Worklist.unasked.Given as goal
 abbrev pub invariant-loop-k : goal.invariant-loop-k
 invariant-loop-k l =
     Opened (clauses_in l.clauses.bytes.now) (state_in l.fn.table) l.fn.table l.k
-    (arrays l.fn.self.lacks l.table l.queue.facts l.queue.n)
+    (arrays l.fn.self.lacks.now l.table l.queue.facts.now l.queue.n)

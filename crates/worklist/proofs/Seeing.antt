@@ -9,7 +9,7 @@ use native.Mathlib.Omega.{arith}
 use lib.Dec.{eqb, ltb}
 use lib.ListN.{length, get_or, set, take, drop, length-set, length-take}
 use lib.Seq.{get_or-set_same, get_or-set_other, get_or-take, take-suc-set, drop-append-le, drop-set-lt, length-take-le}
-use Rattle.std.proofs.Common.{Option, Some, None}
+use Rattle.std.proofs.Common.{Some, None}
 use Rattle.std.specs.Bool.{then_some}
 use borrow.Author.Tests.{le-ltb, lt-ltb, eq-eqb, ne_eqb, eqb-true, eqb-false}
 use Rattle.sets.proofs.Laws.{by-test, below_or_from}

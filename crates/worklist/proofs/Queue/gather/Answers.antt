@@ -1,4 +1,4 @@
-use Rattle.std.proofs.Common.{◌<◌, ◌∙◌, length, sym, take, arith, rules}
+use Rattle.std.proofs.Common.{◌<◌, ◌∙◌, sym, arith}
 use lib.ListN.{length-take}
 use lib.Seq.{get_or-take}
 use Rattle.worklist.proofs.Starting.{gathering_start, gathering_one, gathering_none, gathering_end}

@@ -1,4 +1,4 @@
-use Rattle.std.proofs.Common.{ℕ, ◌≡◌, ◌-◌, ◌<◌, ◌∙◌, length, ap, refl, drop, arith, rules}
+use Rattle.std.proofs.Common.{◌≡◌, ◌-◌, ◌∙◌, length, ap, refl, drop, arith, rules}
 use Rattle.std.specs.Iterator.Adapters.{enumerate_count}
 use lib.ListN.{length-drop}
 use lib.Seq.{drop-drop}

@@ -1,4 +1,4 @@
-use Rattle.std.proofs.Common.{◌≡◌, ◌<◌, ◌∙◌, length, sym, take, get_or, arith}
+use Rattle.std.proofs.Common.{◌<◌, ◌∙◌, length, sym, arith}
 use lib.ListN.{length-take}
 use lib.Seq.{get_or-take}
 use Rattle.meaning.proofs.Places.{clause_in}

@@ -21,7 +21,7 @@ ghost use Rattle.closing.specs.Sweep.{Started, stored, Body, up_to, swept, adds}
 
 use files::{Judged, held, model};
 use sections::Role;
-use worklist::Worked;
+use worklist::{Index, Worked};
 
 // What closing answers: the number of rounds, or a refusal's number.
 #[derive(Clone, Copy)]
@@ -194,14 +194,12 @@ pub fn close_worked(
         table.old table.new result }
 {
     start(state, table);
-    worklist::run(
-        held::section(model, Role::Clauses),
-        table,
-        index,
+    let index = Index {
+        entries: index,
         ends,
         starts,
-        asked,
-    )
+    };
+    worklist::run(held::section(model, Role::Clauses), table, index, asked)
 }
 
 // The rounds of a state under a judged model's clauses, by the way that is lent: sweeps where no starts are, else the

@@ -77,3 +77,31 @@ module _ (section : List ℕ) (all : AllCut Kind.Clause section) {starts : List 
       let size : length (get_or rs k []) ≡ 2 + word (drop at section) = rw there at b.size in
       let next = placed.places (suc k) (omega arith) in
       rw add-one (omega (arith, next, place-next rs k number, placed.places k h, clause-there.size))
+
+-- Clause k is not the last one, and these are its start and the next one's.
+pub record TwoStarts (section starts : List ℕ) (k : ℕ) (w : List ℕ) : Type 0 where
+  pub more : k + 1 < length starts
+  pub number : k < length (clauses_in section)
+  pub ends : get_or w 1 0 ≡ get_or w 0 0 + 4 + 2 * length (clause_at (clauses_in section) k).body
+
+module _ (section : List ℕ) (all : AllCut Kind.Clause section) {starts : List ℕ} (placed : Placed section starts) where
+  -- The last clause, by the last start.
+  pub clause-last : {at : ℕ} → (0 < length starts) × ((d : ℕ) → at ≡ get_or starts (length starts - 1) d)
+      → ClauseAt section (length starts - 1) at
+  clause-last (some, is) = rw (is 0) (clause-there section all placed (length starts - 1) (omega arith))
+
+  -- A window of two, where what is left are the starts from the k-th on.
+  pub two-starts : {left w : List ℕ} {k size : ℕ} → size ≡ 2 → left ≡ drop k starts → size ≤ length left
+      → w ≡ take size left → TwoStarts section starts k w
+  two-starts {left} {w} {k} {size} two is long these =
+      let more : k + 1 < length starts = omega (arith, ap length is, length-drop k starts) in
+      let at : (i : ℕ) → i < 2 → get_or w i 0 ≡ get_or starts (k + i) 0 =
+      λ i h. rw (these, two, is) (get_or-take 2 (drop k starts) i 0 h ∙ get_or-drop k starts i 0)
+      in
+      let same : k + 0 ≡ k = omega arith in
+      let here : get_or w 0 0 ≡ get_or starts k 0 = rw same at (at 0 (omega arith)) in
+      record {
+        more = more;
+        number = omega (arith, placed.count);
+        ends = omega (arith, here, at 1 (omega arith), clause-end section all placed k (omega arith) more);
+      }

@@ -2,20 +2,23 @@
 use Prim.Native.Nat.{ℕ, zero, suc, ◌-◌, ◌≤◌, ◌<◌}
 use mathlib.Core.Path.{◌≡◌, refl, sym, ap, ◌∙◌, fun_ext}
 use mathlib.Core.Logic.{⊎_elim}
-use mathlib.Core.Bool.{true, false}
+use mathlib.Core.Bool.{Bool, true, false, cond}
 use mathlib.Core.List.{List, [], ◌∷◌, ◌++◌}
 use native.Mathlib.Numerals.{add-one}
 use native.Mathlib.Omega.{arith}
-use lib.Dec.{eqb}
-use lib.ListN.{length, get_or, set, take, drop, length-set}
-use lib.Seq.{get_or-set_same, get_or-set_other, take-suc-set, drop-append-le, drop-set-lt, length-take-le}
+use lib.Dec.{eqb, ltb}
+use lib.ListN.{length, get_or, set, take, drop, length-set, length-take}
+use lib.Seq.{get_or-set_same, get_or-set_other, get_or-take, take-suc-set, drop-append-le, drop-set-lt, length-take-le}
+use Rattle.std.proofs.Common.{Some, None}
+use Rattle.std.specs.Bool.{then_some}
 use borrow.Author.Tests.{le-ltb, lt-ltb, eq-eqb, ne_eqb, eqb-true, eqb-false}
 use Rattle.sets.proofs.Laws.{by-test, below_or_from}
 use Rattle.meaning.specs.Model.{Clause}
 use Rattle.meaning.specs.Worklist.{Work, put, arrive, crossed, cross, cross_all_lem}
 use Rattle.meaning.specs.Working.{clause_at}
 use Rattle.worklist.specs.Working.{state_in}
-use Rattle.worklist.specs.Arrays.{Arrays, arrays, number_in, latest_in, seen, said, Fits, Does, Arrives, Crossable}
+use Rattle.worklist.specs.Arrays.{Arrays, arrays, number_in, latest_in, seen, said, waits_for, Fits, Does, Arrives}
+use Rattle.worklist.specs.Arrays.{Crossable}
 
 -- ---- steps, one after the other
 
@@ -226,15 +229,46 @@ unfolding cross_all_lem
 cross_all-more cs r [] k w = refl
 cross_all-more cs r (j ∷ ks) k w = cross_all-more cs r ks k (cross cs r j w)
 
+-- ---- the fact that waits at a place of the queue
+
+-- It is the queue's there.
+pub waiting-fact : (queue : List ℕ) (n at f : ℕ) → (at < length (take n queue)) × ((d : ℕ) → f ≡ get_or (take n queue) at d)
+    → (at < n) × (f ≡ get_or queue at 0)
+waiting-fact queue n at f (h, is) =
+    let some : at < n = omega (arith, length-take n queue) in
+    (some, is 0 ∙ get_or-take n queue at 0 some)
+
+module _ (g : ℕ) (table queue : List ℕ) (n at : ℕ) where
+  -- Past them none waits; ..
+  pub next-none : n ≤ length queue → length (take n queue) ≤ at
+      → None ≡ cond (waits_for g table queue n at) (Some (get_or queue at 0)) None
+  unfolding waits_for
+  next-none sized h = rw (le-ltb at n (omega (arith, length-take-le n queue sized)))
+
+  -- .. before, it is the one if it arose sooner.
+  pub next-some : {f x : ℕ} → (at < n) × (f ≡ get_or queue at 0) → x ≡ number_in table g
+      → then_some (ltb (get_or table f 0) x) f ≡ cond (waits_for g table queue n at) (Some (get_or queue at 0)) None
+  unfolding waits_for
+  next-some {f} {x} (some, is) e = rw (lt-ltb at n some, e, is) (chosen _ (get_or queue at 0))
+    where
+      chosen : (b : Bool) (y : ℕ) → then_some b y ≡ cond b (Some y) None
+      chosen true y = refl
+      chosen false y = refl
+
 -- ---- the latest arrival
 
-pub latest-none : (table queue : List ℕ) (n : ℕ) → n ≡ 0 → 0 ≡ latest_in table queue n
+-- None has arrived, ..
+pub latest-none : (table queue : List ℕ) (n : ℕ) → n ≤ length queue → length (take n queue) ≤ 0
+    → 0 ≡ latest_in table queue n
 unfolding latest_in
-latest-none table queue n e = rw e
+latest-none table queue n sized h = let none : n ≡ 0 = omega (arith, length-take-le n queue sized) in rw none
 
-pub latest-last : (table queue : List ℕ) (n : ℕ) → 0 < n → get_or table (get_or queue (n - 1) 0) 0 ≡ latest_in table queue n
+-- .. or the last one is that of the queue.
+pub latest-last : (table queue : List ℕ) (n f : ℕ) → n ≤ length queue
+    → (0 < length (take n queue)) × ((d : ℕ) → f ≡ get_or (take n queue) (length (take n queue) - 1) d)
+    → get_or table f 0 ≡ latest_in table queue n
 unfolding latest_in
-latest-last table queue zero h = absurd (omega arith)
-latest-last table queue (suc n) h =
-    let same : suc n - 1 ≡ n = omega arith in
-    rw same
+latest-last table queue zero f sized (h, is) = absurd (omega (arith, length-take-le 0 queue sized))
+latest-last table queue (suc n) f sized (h, is) =
+    let last : length (take (suc n) queue) - 1 ≡ n = omega (arith, length-take-le (suc n) queue sized) in
+    ap (λ (g : ℕ). get_or table g 0) (is 0 ∙ rw last (get_or-take (suc n) queue n 0 (omega arith)))

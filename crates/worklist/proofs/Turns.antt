@@ -2,7 +2,7 @@
 -- the next, and what the arrays say at the end is what closing promises.
 use Prim.Native.Nat.{ℕ, suc, ◌+◌, ◌-◌, ◌≤◌, ◌<◌}
 use mathlib.Core.Path.{◌≡◌, refl, sym, ap, ◌∙◌, subst}
-use mathlib.Core.Bool.{true, false}
+use mathlib.Core.Bool.{Bool, true, false, cond}
 use mathlib.Core.Logic.{inl, inr}
 use mathlib.Core.List.Memᴰ
 use mathlib.Core.List.{List, [], ◌∷◌, ◌++◌}
@@ -11,6 +11,7 @@ use native.Mathlib.Omega.{arith}
 use lib.ListN.{length, get_or, take, drop, length-append, length-drop, drop_of_length-le}
 use lib.Seq.{length-take-le, drop-cons, take-suc, take_all, get_or-take}
 use lib.Dec.{ltb}
+use Rattle.std.proofs.Common.{Some, None, slice_range}
 use borrow.Author.Tests.{lt-ltb, ltb-true, ltb-false}
 use Rattle.sets.specs.Sets.{Facts, listed}
 use Rattle.sets.proofs.Laws.{passes, is_true, both, below_or_from}
@@ -24,7 +25,8 @@ use Rattle.meaning.proofs.Worklist.{take-first, within-number, within-entry, wit
 use Rattle.meaning.proofs.Early.{Stopped, toward-start, toward-next, stopped-empty, stopped-waiting}
 use Rattle.worklist.specs.Arrays.{Arrays, number_in, latest_in, said, Fits, Does, Starts, Crossable, Amid, Between}
 use Rattle.worklist.specs.Arrays.{waits_for}
-use Rattle.worklist.proofs.Entries.{EntriesAt}
+use Rattle.worklist.specs.Working.{Listed}
+use Rattle.worklist.proofs.Entries.{entries_at}
 use Rattle.worklist.proofs.Seeing.{does-none, does_then, does-same, number-low, cross_all-more}
 
 -- so many facts wait
@@ -113,12 +115,26 @@ module _ {cs : List Clause} {r : ℕ} {entries : List ℕ} {i : ℕ} {a b : Arra
 -- ---- a turn
 
 -- Whether there is one: a fact waits, and its number is smaller than that of the fact asked for.
-pub waits-more : (g : ℕ) (table queue : List ℕ) (n at : ℕ) → waits_for g table queue n at ≡ true
-    → (at < n) × (get_or table (get_or queue at 0) 0 < number_in table g)
-unfolding waits_for
-waits-more g table queue n at e =
-    let (some, less) = (both (ltb at n) (ltb (get_or table (get_or queue at 0) 0) (number_in table g))).0 (passes e) in
-    (ltb-true _ _ (is_true some), ltb-true _ _ (is_true less))
+module _ (g : ℕ) (table queue : List ℕ) (n at : ℕ) where
+  pub waits-more : {f : ℕ} → Some f ≡ cond (waits_for g table queue n at) (Some (get_or queue at 0)) None
+      → (at < n) × (f ≡ get_or queue at 0) × (get_or table f 0 < number_in table g)
+  unfolding waits_for
+  waits-more {f} e =
+      let (waits, is) = chosen _ _ e in
+      let (some, less) = (both (ltb at n) (ltb (get_or table (get_or queue at 0) 0) (number_in table g))).0 (passes waits) in
+      (ltb-true _ _ (is_true some), is, rw is (ltb-true _ _ (is_true less)))
+    where
+      chosen : (b : Bool) (x : ℕ) → Some f ≡ cond b (Some x) None → (b ≡ true) × (f ≡ x)
+      chosen true x e = (refl, cc)
+      chosen false x e = cc
+
+  pub waits_none : None ≡ cond (waits_for g table queue n at) (Some (get_or queue at 0)) None
+      → waits_for g table queue n at ≡ false
+  waits_none e = chosen _ _ e
+    where
+      chosen : (b : Bool) (x : ℕ) → None ≡ cond b (Some x) None → b ≡ false
+      chosen true x e = cc
+      chosen false x e = refl
 
 -- Before the first one.
 pub between_start : {cs : List Clause} {S : Facts} → Known cs S → {g : ℕ} → S g ≡ false → {before : List ℕ} {a : Arrays}
@@ -149,63 +165,91 @@ module _ {cs : List Clause} {S : Facts} (known : Known cs S) {g at c : ℕ} {a :
     within : Within cs S b.had f (entries_from_lem 0 cs f) (said a (suc at) c)
     within = take-first known b.toward.sound first-waits
 
-    pub first-low : f < 4096
+    first-low : f < 4096
     first-low = b.fits.low at h
 
     -- Its number fits.
-    pub first-few : get_or a.table f 0 ≤ 4096
+    first-few : get_or a.table f 0 ≤ 4096
     first-few =
         let few = arrived-few known b.toward.sound.arrived f
         (Memᴰ.append_right b.had (rw first-waits (Memᴰ.head refl))) in
         omega (arith, few, number-low a.table f first-low)
 
-    module _ {index : List ℕ} {from end : ℕ} (e : EntriesAt cs index f from end) where
+    module _ {entries : List ℕ} (these : entries ≡ entries_from_lem 0 cs f) where
       -- No more places are crossed than there are.
-      pub turn-count : c + (end - from) ≤ body_places cs
-      turn-count = omega (arith, e.count, within.crossings, places_le (listed (b.had ++ f ∷ [])) cs)
+      count : c + length entries ≤ body_places cs
+      count = omega (arith, ap length these, within.crossings, places_le (listed (b.had ++ f ∷ [])) cs)
 
-      module _ {r : ℕ} (round : r ≡ get_or a.table f 0 + 1) where
-        later : r ≡ suc (number_in a.table f)
-        later = rw (number-low a.table f first-low, ← add-one) round
+      later : get_or a.table f 0 + 1 ≡ suc (number_in a.table f)
+      later = rw (number-low a.table f first-low, add-one)
 
-        -- It is taken: its places are to be crossed, ..
-        pub turn-amid : Amid cs r (take (end - from) (drop from index)) a
-        turn-amid =
-            rw e.these
-            (record {
-              S = S;
-              known = known;
-              had = b.had;
-              f = f;
-              at = suc at;
-              crossings = c;
-              here = omega (arith, b.here);
-              some = h;
-              round = later;
-              within = within;
-              fits = b.fits;
-            })
+      -- It is taken: its places are to be crossed, ..
+      amid : Amid cs (get_or a.table f 0 + 1) entries a
+      amid =
+          rw these
+          (record {
+            S = S;
+            known = known;
+            had = b.had;
+            f = f;
+            at = suc at;
+            crossings = c;
+            here = omega (arith, b.here);
+            some = h;
+            round = later;
+            within = within;
+            fits = b.fits;
+          })
 
-        -- .. and that leads to the next moment between turns.
-        pub turn-next : get_or a.table f 0 < number_in a.table g → {d : Arrays}
-            → Does (cross_all_lem cs r (take (end - from) (drop from index))) a d
-            → Between cs S g (at + 1) (c + (end - from)) d
-        unfolding taken
-        turn-next l {d} does =
-            let x : Does (cross_all_lem cs r (entries_from_lem 0 cs f)) a d = rw e.these at does in
-            let less : number_in a.table f < number_in a.table g = rw (number-low a.table f first-low) l in
-            let done = rw (← later) at (toward-next known b.toward first-waits less) in
-            let count : (cross_all_lem cs r (entries_from_lem 0 cs f) (said a (suc at) c)).crossings ≡ c + (end - from) =
-            omega (arith, done.sound.crossings, within.crossings, e.count)
-            in
-            rw (add-one, ← count)
-            (record {
-              had = b.had ++ f ∷ [];
-              here = omega (arith, length-append b.had (f ∷ []), b.here);
-              some = omega (arith, x.grows);
-              toward = subst (λ (w : Work). Toward cs S g (b.had ++ f ∷ []) w) (sym (x.says (suc at) c h)) done;
-              fits = x.fits;
-            })
+      -- .. and that leads to the next moment between turns.
+      after : get_or a.table f 0 < number_in a.table g → {d : Arrays}
+          → Does (cross_all_lem cs (get_or a.table f 0 + 1) entries) a d
+          → Between cs S g (at + 1) (c + length entries) d
+      unfolding taken
+      after l {d} does =
+          let x : Does (cross_all_lem cs (suc (number_in a.table f)) (entries_from_lem 0 cs f)) a d =
+          rw (later, these) at does
+          in
+          let less : number_in a.table f < number_in a.table g = rw (number-low a.table f first-low) l in
+          let done = toward-next known b.toward first-waits less in
+          let count : (cross_all_lem cs (suc (number_in a.table f)) (entries_from_lem 0 cs f) (said a (suc at) c)).crossings
+          ≡ c + length entries =
+          omega (arith, done.sound.crossings, within.crossings, ap length these)
+          in
+          rw (add-one, ← count)
+          (record {
+            had = b.had ++ f ∷ [];
+            here = omega (arith, length-append b.had (f ∷ []), b.here);
+            some = omega (arith, x.grows);
+            toward = subst (λ (w : Work). Toward cs S g (b.had ++ f ∷ []) w) (sym (x.says (suc at) c h)) done;
+            fits = x.fits;
+          })
+
+  -- The same of the fact that is found.
+  module _ {f : ℕ} (e : Some f ≡ cond (waits_for g a.table a.queue a.n at) (Some (get_or a.queue at 0)) None) where
+    waiting : (at < a.n) × (f ≡ get_or a.queue at 0) × (get_or a.table f 0 < number_in a.table g)
+    waiting = waits-more g a.table a.queue a.n at e
+
+    pub turn-low : f < 4096
+    turn-low = rw waiting.1 (first-low waiting.0)
+
+    pub turn-few : (at < 4096) × (get_or a.table f 0 ≤ 4096)
+    turn-few = (omega (arith, waiting.0, b.fits.full), rw waiting.1 (first-few waiting.0))
+
+    module _ {index ends entries : List ℕ} (listed : Listed cs index ends)
+        (part : entries ≡ slice_range index (get_or ends f 0) (get_or ends (f + 1) 0)) where
+      these : entries ≡ entries_from_lem 0 cs (get_or a.queue at 0)
+      these = rw waiting.1 at (part ∙ (entries_at listed f turn-low).these)
+
+      pub turn-count : c + length entries ≤ body_places cs
+      turn-count = count waiting.0 these
+
+      pub turn-amid : Amid cs (get_or a.table f 0 + 1) entries a
+      turn-amid = rw waiting.1 (amid waiting.0 these)
+
+      pub turn-next : {d : Arrays} → Does (cross_all_lem cs (get_or a.table f 0 + 1) entries) a d
+          → Between cs S g (at + 1) (c + length entries) d
+      turn-next does = after waiting.0 these (rw waiting.1 at waiting.2) (rw waiting.1 at does)
 
   -- At the end none waits that arose sooner than g: none at all, ..
   none-waits : a.n ≤ at → drop at (take a.n a.queue) ≡ []

@@ -5,6 +5,7 @@ use Rattle.meaning.specs.Model.{Clause}
 use Rattle.meaning.specs.Worklist.{Work, stored, begun}
 use Rattle.meaning.specs.Working.{Known, Within, Toward, clause_at}
 use Rattle.worklist.specs.Working.{state_in}
+use Rattle.worklist.specs.declared.Worklist.{Worklist}
 
 -- what each clause still lacks, the round table, the facts that have arrived, in order, and how many they are
 pub record Arrays : Type 0 where
@@ -15,6 +16,10 @@ pub record Arrays : Type 0 where
 
 abbrev pub arrays : List ℕ → List ℕ → List ℕ → ℕ → Arrays
 arrays lacks table queue n = record { lacks = lacks; table = table; queue = queue; n = n }
+
+-- what the worklist keeps, and the table beside it
+abbrev pub held : Worklist → List ℕ → Arrays
+held w table = arrays w.lacks.now table w.queue.facts.now w.queue.n
 
 -- a fact's number; only facts below 4,096 have one
 unfoldable pub number_in : List ℕ → ℕ → ℕ

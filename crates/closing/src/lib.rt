@@ -9,6 +9,7 @@ ghost use Rattle.std.proofs.Math.Option.{none};
 ghost use Rattle.sets.specs.Sets.{every};
 ghost use Rattle.facts.specs.Facts.{members};
 ghost use Rattle.records.specs.Words.{word, words};
+ghost use Rattle.records.specs.Refusals.{answer_or};
 ghost use Rattle.lists.specs.Lists.{AllCut};
 ghost use Rattle.records.specs.declared.Kind.{Kind};
 ghost use Rattle.sections.specs.declared.Role.{Role};
@@ -22,20 +23,6 @@ ghost use Rattle.closing.specs.Sweep.{Started, stored, Body, up_to, swept, adds}
 use files::{Judged, held, model};
 use sections::Role;
 use worklist::Worked;
-
-// What closing answers: the number of rounds, or a refusal's number.
-#[derive(Clone, Copy)]
-pub enum Closed {
-    Rounds(usize),
-    Refused(u8),
-}
-
-// What closing with an index answers: the numbers of rounds and of body places crossed, or a refusal's number.
-#[derive(Clone, Copy)]
-pub enum Crossed {
-    Rounds(usize, usize),
-    Refused(u8),
-}
 
 // The state's bytes: eight facts each.
 const BYTES: usize = 512;
@@ -226,16 +213,25 @@ pub fn close_judged(
     worked.rounds
 }
 
+// Refuses a state with a fact of F or more.
+fn known_facts(model: &[u8], state: &[u8]) -> Result<(), u8>
+    requires { shape_fault model.now ≡ none }
+    ensures { result ≡ answer_or (state_refusal model.now state.now) tt }
+{
+    if facts::any_from(state, 512, held::facts(model)) {
+        return Err(6);
+    }
+    Ok(())
+}
+
 // Closes under a judged model's clauses; a state with a fact of F or more is refused.
-fn close_known(model: &[u8], state: &[u8], table: &mut [u16]) -> Closed
+fn close_known(model: &[u8], state: &[u8], table: &mut [u16]) -> Result<usize, u8>
     requires { (shape_fault model.now ≡ none) × (4096 ≤ length table.old) }
     ensures { ClosesKnown model.now state.now table.old
         table.new result }
 {
-    if facts::any_from(state, 512, held::facts(model)) {
-        return Closed::Refused(6);
-    }
-    Closed::Rounds(close_swept(model, state, table))
+    known_facts(model, state)?;
+    Ok(close_swept(model, state, table))
 }
 
 // Whether what is lent is too short for a state or its round numbers.
@@ -246,15 +242,15 @@ pub fn no_room(state: &[u8], table: &[u16]) -> bool
 }
 
 // Closing called by itself: judges what it is lent, fills the round table and answers the number of rounds, or refuses
-// and changes nothing.
-pub fn close(model: &[u8], state: &[u8], table: &mut [u16]) -> Closed
+// with a number and changes nothing.
+pub fn close(model: &[u8], state: &[u8], table: &mut [u16]) -> Result<usize, u8>
     ensures { Closes model.now state.now table.old table.new result }
 {
     if no_room(state, table) {
-        return Closed::Refused(1);
+        return Err(1);
     }
     match model::judge_model(model) {
-        Judged::Fault(fault) => Closed::Refused(fault.number),
+        Judged::Fault(fault) => Err(fault.number),
         Judged::Fine(_) => close_known(model, state, table),
     }
 }
@@ -286,36 +282,44 @@ pub fn build_index(
 }
 
 // Closes by an index of a judged model's clauses, which is built first; a state with a fact of F or more is refused.
-fn close_built(model: &[u8], state: &[u8], table: &mut [u16], index: &mut [u16]) -> Crossed
+fn close_built(
+    model: &[u8],
+    state: &[u8],
+    table: &mut [u16],
+    index: &mut [u16],
+) -> Result<Worked, u8>
     requires { (shape_fault model.now ≡ none) × (length model.now ≤ 65536) × (4096 ≤ length table.old)
         × (no_places_lem model.now index.old ≡ false) }
     ensures { Crosses (state_refusal model.now state.now) model.now
         state.now table.old table.new index.old index.new result }
 {
-    if facts::any_from(state, 512, held::facts(model)) {
-        return Crossed::Refused(6);
-    }
+    known_facts(model, state)?;
     let mut ends = [0u16; 4097];
     let mut starts = [0u16; 4096];
     let n = build_index(model, index, &mut ends, &mut starts);
     let worked = close_worked(model, state, table, index, &ends, &starts[..n], NO_FACT);
-    Crossed::Rounds(worked.rounds, worked.crossings)
+    Ok(worked)
 }
 
-// Closing called by itself with an index lent: as without one, with an answer for the crossings; the index then holds
-// each body place's clause number, by fact and then clause.
-pub fn close_indexed(model: &[u8], state: &[u8], table: &mut [u16], index: &mut [u16]) -> Crossed
+// Closing called by itself with an index lent: as without one, and it answers the body places crossed too; the index
+// then holds each body place's clause number, by fact and then clause.
+pub fn close_indexed(
+    model: &[u8],
+    state: &[u8],
+    table: &mut [u16],
+    index: &mut [u16],
+) -> Result<Worked, u8>
     ensures { ClosesIndexed model.now state.now table.old
         table.new index.old index.new result }
 {
     if no_room(state, table) {
-        return Crossed::Refused(1);
+        return Err(1);
     }
     match model::judge_model(model) {
-        Judged::Fault(fault) => Crossed::Refused(fault.number),
+        Judged::Fault(fault) => Err(fault.number),
         Judged::Fine(counts) => {
             if no_places(model, counts.clauses, index) {
-                return Crossed::Refused(1);
+                return Err(1);
             }
             close_built(model, state, table, index)
         }

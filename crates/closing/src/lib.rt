@@ -4,7 +4,7 @@
 
 #![tactic(auto)]
 
-ghost use Rattle.std.specs.Prelude.{◌≡◌, false, cond, eqb, ◌+◌, ◌≤◌, ◌<◌, length, get_or, drop};
+ghost use Rattle.std.specs.Prelude.{◌≡◌, false, cond, eqb, ◌+◌, ◌≤◌, ◌<◌, length, drop};
 ghost use Rattle.std.proofs.Math.Option.{none};
 ghost use Rattle.sets.specs.Sets.{every};
 ghost use Rattle.facts.specs.Facts.{members};
@@ -18,11 +18,12 @@ ghost use Rattle.indexing.specs.Placing.{Cleared};
 ghost use Rattle.worklist.specs.Working.{Placed, Listed, WorksFor};
 ghost use Rattle.closing.specs.Closing.{Written, Bounded, Way, ClosesUnder, ClosesKnown, Closes};
 ghost use Rattle.closing.specs.Closing.{no_room_lem, state_refusal, no_places_lem, Builds, Crosses, ClosesIndexed};
-ghost use Rattle.closing.specs.Sweep.{Started, stored, Body, up_to, swept, adds};
+ghost use Rattle.closing.specs.Sweep.{Eight, stored, Body, up_to, swept, adds};
 
 use files::{Judged, held, model};
+use records::Records;
 use sections::Role;
-use worklist::Worked;
+pub use worklist::Worked;
 
 // The state's bytes: eight facts each.
 const BYTES: usize = 512;
@@ -35,27 +36,20 @@ const NO_FACT: usize = 4096;
 // So many clauses are swept before the worklist has looked through its table.
 const FEW: usize = 32;
 
-// The byte at a place of the state, 0 where the state is shorter.
-fn byte_at(state: &[u8], i: usize) -> u16
-    ensures { result ≡ get_or state.now i 0 }
-{
-    if i < state.len() { state[i] as u16 } else { 0 }
-}
-
 // Round 0 of a fact, by its bit.
-fn number(bit: u16) -> u16
+fn number(bit: u8) -> u16
     ensures { result ≡ cond (eqb bit 1) 0 65535 }
 {
     if bit == 1 { 0 } else { OUTSIDE }
 }
 
 // Round 0 of the eight facts of one byte.
-fn start_byte(b: u16, table: &mut [u16], at: usize)
-    requires { at + 8 ≤ length table.old }
-    ensures { Started b at 8 table.old table.new }
+fn start_byte(byte: u8, eight: &mut [u16])
+    requires { length eight.old ≡ 8 }
+    ensures { Eight byte eight.new }
 {
-    for k in 0..8 {
-        table[at + k] = number((b >> k) % 2);
+    for (k, round) in eight.iter_mut().enumerate() {
+        *round = number((byte >> k) % 2);
     }
 }
 
@@ -64,9 +58,7 @@ fn clear(table: &mut [u16])
     requires { 4096 ≤ length table.old }
     ensures { Written (λ _. 65535) table.old table.new }
 {
-    for f in 0..4096 {
-        table[f] = OUTSIDE;
-    }
+    table[..4096].fill(OUTSIDE);
 }
 
 // Round 0: each stored fact has the number 0, every other none.
@@ -75,11 +67,11 @@ fn start(state: &[u8], table: &mut [u16])
     ensures { Written (stored (members state.now)) table.old table.new }
 {
     clear(table);
-    for i in 0..BYTES {
-        let b = byte_at(state, i);
+    let bytes = &state[..state.len().min(BYTES)];
+    for (i, byte) in bytes.iter().enumerate() {
         // Most bytes have no fact.
-        if b > 0 {
-            start_byte(b, table, i * 8);
+        if *byte > 0 {
+            start_byte(*byte, &mut table[i * 8..i * 8 + 8]);
         }
     }
 }
@@ -97,19 +89,14 @@ fn stands(body: &[u8], table: &[u16], r: u16) -> bool
     requires { Body body.now × (4096 ≤ length table.now) }
     ensures { result ≡ every (up_to table.now r) (words body.now) }
 {
-    let mut i = 0;
     // Two facts in a turn: one by one, long bodies take half as long again, since where a body fails is hard to guess.
-    while 2 < body.len() - i {
-        if fact_stands(body, i, table, r) & fact_stands(body, i + 2, table, r) {
-            i += 4;
-        } else {
+    let (pairs, last) = body.as_chunks::<4>();
+    for pair in pairs {
+        if !(fact_stands(pair, 0, table, r) & fact_stands(pair, 2, table, r)) {
             return false;
         }
     }
-    if i < body.len() {
-        return fact_stands(body, i, table, r);
-    }
-    true
+    last.is_empty() || fact_stands(last, 0, table, r)
 }
 
 // One round more: every head whose body stands in round r, and that has no number yet, gets r + 1. Answers whether
@@ -122,18 +109,12 @@ fn sweep(clauses: &[u8], table: &mut [u16], r: u16) -> bool
         table.old table.new }
 {
     let mut added = false;
-    let mut at = 0;
-    while at < clauses.len() {
-        let end = at + 2 + records::word_at(clauses, at);
-        let clause = &clauses[at..end];
+    for clause in Records(clauses) {
         let head = records::word_at(clause, 2);
-        if table[head] == OUTSIDE {
-            if stands(&clause[4..], table, r) {
-                table[head] = r + 1;
-                added = true;
-            }
+        if table[head] == OUTSIDE && stands(&clause[4..], table, r) {
+            table[head] = r + 1;
+            added = true;
         }
-        at = end;
     }
     added
 }

@@ -16,7 +16,7 @@ use Rattle.files.specs.declared.Judged.{Judged}
 use Rattle.files.proofs.Answers.{judged-fine, judged-fault}
 use Rattle.closing.specs.Closing as closing
 use Rattle.closing.proofs.Alone.{answer-ok, answer-err}
-use Rattle.worklist.specs.declared.Worked.{Worked}
+use Rattle.closing.specs.declared.Worked.{Worked}
 use Rattle.reaching.specs.Reaching.{Lent}
 use Rattle.checking.specs.Verdict.{verdict_of_lem, Buffers, Checked, CheckedIndexed}
 use Rattle.running.specs.declared.Verdict.{Verdict}

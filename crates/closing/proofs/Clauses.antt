@@ -1,21 +1,19 @@
 -- The clauses of a judged section, one at a time: what each is.
 use Prim.Native.Nat.{ℕ, ◌+◌, ◌-◌, ◌≤◌, ◌<◌}
-use mathlib.Core.Path.{◌≡◌, refl, ap, ◌∙◌}
-use mathlib.Core.Logic.{⊎_elim}
+use mathlib.Core.Path.{◌≡◌, refl, sym, ap, ◌∙◌}
 use mathlib.Core.Bool.{Bool}
 use mathlib.Core.List.Memᴰ
-use mathlib.Core.List.{List, [], ◌∷◌, map}
+use mathlib.Core.List.{List, ◌∷◌, map}
 use native.Mathlib.Omega.{arith}
 use lib.ListN.{length, take, drop, length-drop}
 use Rattle.sets.specs.Sets.{Facts, every}
 use Rattle.meaning.specs.Model.{Clause}
 use Rattle.meaning.specs.Rounds.{stands}
-use Rattle.sets.proofs.Laws.{below_or_from}
 use Rattle.records.specs.Words.{word, words}
 use Rattle.records.specs.Records.{record_of_lem, records}
 use Rattle.lists.specs.Lists.{AllCut}
 use Rattle.records.specs.declared.Kind.{Kind}
-use Rattle.records.proofs.Sections.{rest_of, records_empty, records-next}
+use Rattle.records.proofs.Sections.{rest_of, records-next}
 use Rattle.lists.proofs.Clauses.{ClauseBytes, clause-bytes}
 use Rattle.files.specs.Files.{clause_of, clauses_in}
 use Rattle.closing.specs.Closing.{Bounded}
@@ -40,41 +38,44 @@ bounded-rest b =
       bodies = λ d m. b.bodies d (Memᴰ.tail m);
     }
 
-module _ (section clause rest : List ℕ) (parts : records section ≡ clause ∷ records rest) where
-  -- A section with a record has a byte, and its first record is the one at its start.
-  some-byte : 0 < length section
-  some-byte =
-      ⊎_elim (λ q. q)
-      (λ q.
-      let none : records section ≡ [] = records_empty section (omega (arith, q)) in
-      let z : ◌≡◌ {A = ℕ} 0 1 = cc in
-      absurd (omega arith))
-      (below_or_from 0 (length section))
+module _ (section : List ℕ) (some : length section ≡ 0 → ⊥) (all : AllCut Kind.Clause section) where
+  abbrev r : List ℕ
+  r = record_of_lem section
 
-  first-is : clause ≡ record_of_lem section
-  first-is = let both = records-next section some-byte in cc
+  parts : records section ≡ r ∷ records (drop (length r) section)
+  parts = records-next section (omega (arith, some))
 
-  -- The first record of a judged section is a clause.
-  pub clause-first : AllCut Kind.Clause section → Bounded (clauses_in section) → ClauseFirst section clause rest
+  bytes : ClauseBytes section
+  unfolding AllCut
+  bytes = clause-bytes section (all r (rw parts (Memᴰ.head refl)))
+
+  -- A judged section starts with a whole record, ..
+  pub clause-fits : 2 + word section ≤ length section
+  clause-fits = bytes.fits
+
+  -- .. which is a clause.
+  pub clause-first : Bounded (clauses_in section) → (n : ℕ) → n ≡ word section → {clause rest : List ℕ}
+      → clause ≡ take (2 + n) section → rest ≡ drop (2 + n) section → ClauseFirst section clause rest
   unfolding clauses_in clause_of AllCut
-  clause-first all b =
-      let bytes : ClauseBytes section =
-      clause-bytes section (rw first-is at (all clause (rw parts (Memᴰ.head refl)))) in
-      let size : length clause ≡ 2 + word section = rw first-is bytes.size in
-      let four : length (drop 4 clause) ≡ length clause - 4 = length-drop 4 clause in
-      let next : clauses_in section ≡ clause_of clause ∷ clauses_in rest = ap (map clause_of) parts in
-      let bounded : Bounded (clause_of clause ∷ clauses_in rest) = rw next at b in
-      record {
-        long = omega (arith, bytes.head);
-        head = bounded.heads (clause_of clause) (Memᴰ.head refl);
+  clause-first b n e {clause} {rest} front back =
+      let same : clause ≡ r = front ∙ ap (λ (k : ℕ). take (2 + k) section) e ∙ sym bytes.is in
+      let others : rest ≡ drop (length r) section =
+      back ∙ ap (λ (k : ℕ). drop k section) (ap (λ (k : ℕ). 2 + k) e ∙ sym bytes.size) in
+      let four : length (drop 4 r) ≡ length r - 4 = length-drop 4 r in
+      let next : clauses_in section ≡ clause_of r ∷ clauses_in (drop (length r) section) = ap (map clause_of) parts in
+      let bounded : Bounded (clause_of r ∷ clauses_in (drop (length r) section)) = rw next at b in
+      rw (same, others)
+      (record {
+        long = omega (arith, bytes.size, bytes.head);
+        head = bounded.heads (clause_of r) (Memᴰ.head refl);
         body = record {
-          even = omega (arith, bytes.head, bytes.even);
-          below = bounded.bodies (clause_of clause) (Memᴰ.head refl);
+          even = omega (arith, bytes.size, bytes.head, bytes.even);
+          below = bounded.bodies (clause_of r) (Memᴰ.head refl);
         };
         next = next;
-        cut = λ r m. all r (rw parts (Memᴰ.tail m));
+        cut = λ r' m. all r' (rw parts (Memᴰ.tail m));
         bounded = bounded-rest bounded;
-      }
+      })
 
 -- ---- what the code looks at in a clause
 

@@ -109,7 +109,9 @@ pair-at body chunks k is h =
 
 module _ {body : List ℕ} {k : ℕ} {pair : List ℕ} (p : Pair body k pair) where
   pub low_pair : Low body (4 * k) → (word pair < 4096) × (word (drop 2 pair) < 4096)
-  low_pair below = rw (p.first, p.second) (low body (4 * k) (omega (arith, p.fits)) below, low_second body (4 * k) p.fits below)
+  low_pair below =
+      rw (p.first, p.second)
+      (low body (4 * k) (omega (arith, p.fits)) below, low_second body (4 * k) p.fits below)
 
   pub low-after-pair : Low body (4 * k) → Low body (4 * (k + 1))
   low-after-pair below =
@@ -130,7 +132,8 @@ none-left body i X h = rw (drop_of_length-le body h)
 pub one_left : (body : List ℕ) (i : ℕ) (X : Facts) → length body ≡ i + 2
     → every X (words (drop i body)) ≡ X (word (drop i body))
 one_left body i X h =
-    all_stand body i (omega arith) X ∙ ap (λ (t : Bool). X (word (drop i body)) && t) (none-left body (i + 2) X (omega arith))
+    all_stand body i (omega arith) X
+    ∙ ap (λ (t : Bool). X (word (drop i body)) && t) (none-left body (i + 2) X (omega arith))
     ∙ and-true (X (word (drop i body)))
 
 -- What is behind the chunks is that fact, where there is something.

@@ -47,8 +47,8 @@ index-left (some k) cs before a b x y = x ∙ sym y
 
 -- Two results of closing with an index that meet its promise for the same model, state, table and index are equal, the
 -- answer and every entry of both.
-pub crossed_unique : {m state before a b ix ia ib : List ℕ} {r s : Result Worked ℕ} → ClosesIndexed m state before a ix ia r
-    → ClosesIndexed m state before b ix ib s → (r ≡ s) × (a ≡ b) × (ia ≡ ib)
+pub crossed_unique : {m state before a b ix ia ib : List ℕ} {r s : Result Worked ℕ}
+    → ClosesIndexed m state before a ix ia r → ClosesIndexed m state before b ix ib s → (r ≡ s) × (a ≡ b) × (ia ≡ ib)
 crossed_unique {m} {state} {before} {a} {b} {ix} {ia} {ib} x y =
     let refused = close_refusal_indexed m state before ix in (
       x.answers ∙ sym y.answers,
@@ -143,16 +143,19 @@ module _ {m state before after ix ix' : List ℕ} where
 
   crosses_none : (refused : Option ℕ) {w : Worked}
       → Crosses refused m state before after ix ix' (Ok w)
-      → (refused ≡ none) × (w.crossings ≡ places_in (closure (model_of_lem m).clauses (members state)) (model_of_lem m).clauses)
+      → (refused ≡ none)
+      × (w.crossings ≡ places_in (closure (model_of_lem m).clauses (members state)) (model_of_lem m).clauses)
       × IndexHolds (model_of_lem m).clauses ix ix'
   unfolding Index
   crosses_none none {w} c =
-      let is : w.crossings ≡ places_in (closure (model_of_lem m).clauses (members state)) (model_of_lem m).clauses = cc in
+      let is : w.crossings ≡ places_in (closure (model_of_lem m).clauses (members state)) (model_of_lem m).clauses =
+      cc in
       (refl, is, c.index)
   crosses_none (some j) c = let z : ◌≡◌ {A = ℕ} 0 1 = cc in absurd (omega arith)
 
   -- Where the index is not refused, the answer and the table are those of closing without one.
-  uncrossed_closes : {r : Result Worked ℕ} → (IndexShort m state before ix → ⊥) → ClosesIndexed m state before after ix ix' r
+  uncrossed_closes : {r : Result Worked ℕ} → (IndexShort m state before ix → ⊥)
+      → ClosesIndexed m state before after ix ix' r
       → Closes m state before after (uncrossed r)
   uncrossed_closes n c =
       let same = same-refusal m state before ix n in

@@ -9,7 +9,8 @@ use native.Mathlib.Omega.{arith}
 use lib.ListN.{length, get_or, take, drop, replicate, length-take, length-drop}
 use lib.Seq.{drop-drop, get_or-drop}
 use borrow.Rule.Slice.PartMut.{put_mid, same_len_mid}
-use Rattle.std.proofs.lemmas.List.{get_or_append_left, get_or-append_right, get_or-replicate, length-replicate, length-append, get_or-take}
+use Rattle.std.proofs.lemmas.List.{get_or_append_left, get_or-append_right, get_or-replicate, length-replicate}
+use Rattle.std.proofs.lemmas.List.{length-append, get_or-take}
 use Rattle.std.proofs.lemmas.Slice.{drop-put_mid, drop-append-drop}
 use Rattle.sets.proofs.Laws.{below_or_from}
 use Rattle.facts.specs.Facts.{members}
@@ -50,7 +51,12 @@ pub record Begun (state before : List ℕ) (i : ℕ) (table : List ℕ) : Type 0
 -- Before the first byte.
 pub begun-clear : {state before table : List ℕ} → Written (λ _. 65535) before table → Begun state before 0 table
 begun-clear w =
-    record { as_long = w.as_long; done = λ f l. absurd (omega arith); clear = λ f _ l. w.entries f l; beyond = w.beyond }
+    record {
+      as_long = w.as_long;
+      done = λ f l. absurd (omega arith);
+      clear = λ f _ l. w.entries f l;
+      beyond = w.beyond;
+    }
 
 -- After the last one that there is.
 pub begun-all : {state before table : List ℕ} (i : ℕ) → Begun state before i table → min 512 (length state) ≤ i

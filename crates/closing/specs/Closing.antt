@@ -81,8 +81,8 @@ unfoldable pub Table : Option ℕ → List Clause → Facts → List ℕ → Lis
 Table none cs S before after = Filled cs S before after
 Table (some k) cs S before after = after ≡ before
 
--- for the function within: what is left to promise for a model that nothing refuses and a table with room; "A refusal ..
--- is its number alone.", otherwise it "answers the number of rounds"
+-- for the function within: what is left to promise for a model that nothing refuses and a table with room. "A refusal
+-- .. is its number alone.", otherwise it "answers the number of rounds"
 pub record ClosesKnown (model state before after : List ℕ) (r : Result ℕ ℕ) : Type 0 where
   pub answers : r
       ≡ answer_or (state_refusal model state) (rounds (model_of_lem model).clauses (members state))

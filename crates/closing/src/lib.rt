@@ -29,7 +29,7 @@ const BYTES: usize = 512;
 
 const OUTSIDE: u16 = 65535;
 
-// No fact: closing for it goes through all rounds.
+// No fact: closing for it goes through all rounds. The worklist takes the fact that is asked for as a number.
 const NO_FACT: usize = 4096;
 
 // So many clauses are swept before the worklist has looked through its table.
@@ -66,6 +66,7 @@ fn start(state: &[u8], table: &mut [u16])
     ensures { Written (stored (members state.now)) table.old table.new }
 {
     clear(table);
+    // The table's entries by their place: once `chunks_mut` is over, a proof knows the table's length alone.
     let bytes = &state[..state.len().min(BYTES)];
     for (i, byte) in bytes.iter().enumerate() {
         // Most bytes have no fact.
@@ -109,7 +110,7 @@ fn sweep(clauses: &[u8], table: &mut [u16], r: u16) -> bool
 {
     let mut added = false;
     let mut rest = clauses;
-    // Over `Records`, which looks whether each record is whole, long bodies take twice as long, short ones a fifth longer.
+    // Over `Records`, which looks whether each is whole, long bodies take twice as long and short ones a fifth longer.
     while !rest.is_empty() {
         let (clause, after) = rest.split_at(2 + records::word_at(rest, 0));
         let head = records::word_at(clause, 2);
@@ -130,6 +131,7 @@ fn close_clauses(clauses: &[u8], state: &[u8], table: &mut [u16]) -> usize
         table.new result }
 {
     start(state, table);
+    // Counted here: a sweep needs its round's number.
     let mut r: u16 = 0;
     while sweep(clauses, table, r) {
         r += 1;

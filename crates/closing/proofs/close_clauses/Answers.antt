@@ -36,7 +36,11 @@ loop-r-preserved c =
     let S = members c.args.state.now in
     let inv = c.loop-r.invariant in
     record {
-      within = omega (arith, more_rounds cs S c.requires.1 c.loop-r.r inv.within inv.holds c.sweep.ensures.0 c.loop-r-test.true);
+      within =
+          omega (
+            arith,
+            more_rounds cs S c.requires.1 c.loop-r.r inv.within inv.holds c.sweep.ensures.0 c.loop-r-test.true,
+          );
       holds = rw add-one (next-numbers cs S c.requires.1 c.loop-r.r inv.within inv.holds c.sweep.ensures.1);
     }
 

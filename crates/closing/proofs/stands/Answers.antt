@@ -22,7 +22,8 @@ pub returns-then-not-fact_stands : goal.returns-then-not-fact_stands
 returns-then-not-fact_stands c =
     let p = pair-at c.args.body.now c.as_chunks.result.0.now c.loop-pair.pair-index c.as_chunks.ensures.front
     (omega (arith, c.as_chunks.ensures.front_len)) in
-    let e = pair_stands p (up_to c.args.table.now c.args.r) _ _ c.fact_stands.ensures c.fact_stands-in-loop-pair.ensures in
+    let X = up_to c.args.table.now c.args.r in
+    let e = pair_stands p X _ _ c.fact_stands.ensures c.fact_stands-in-loop-pair.ensures in
     let t = c.if-not-fact_stands.true in
     sym (c.loop-pair.invariant.same ∙ rw t at e)
 
@@ -30,7 +31,8 @@ pub loop-pair-preserved : goal.loop-pair-preserved
 loop-pair-preserved c =
     let p = pair-at c.args.body.now c.as_chunks.result.0.now c.loop-pair.pair-index c.as_chunks.ensures.front
     (omega (arith, c.as_chunks.ensures.front_len)) in
-    let e = pair_stands p (up_to c.args.table.now c.args.r) _ _ c.fact_stands.ensures c.fact_stands-in-loop-pair.ensures in
+    let X = up_to c.args.table.now c.args.r in
+    let e = pair_stands p X _ _ c.fact_stands.ensures c.fact_stands-in-loop-pair.ensures in
     let t = c.if-not-fact_stands.false in
     record { low = low-after-pair p c.loop-pair.invariant.low; same = c.loop-pair.invariant.same ∙ rw t at e }
 

@@ -10,5 +10,6 @@ abbrev pub invariant-loop-pair : goal.invariant-loop-pair
 invariant-loop-pair l =
     record {
       low : Low l.body (4 * l.pair-index);
-      same : every (up_to l.table l.r) (words l.body) ≡ every (up_to l.table l.r) (words (drop (4 * l.pair-index) l.body));
+      same : every (up_to l.table l.r) (words l.body)
+          ≡ every (up_to l.table l.r) (words (drop (4 * l.pair-index) l.body));
     }

@@ -6,7 +6,8 @@ use Rattle.files.specs.Files.{clause_of, clauses_in}
 use Rattle.closing.proofs.Clauses.{clause-fits, clause-first, head-is, body_stands}
 use Rattle.closing.proofs.Sweeps.{sweep-skip, sweep_fail, sweep-fire, sweep-end}
 use Rattle.closing.proofs.sweep.Goals as goal
-use Rattle.closing.proofs.sweep.Goals.{else-table-head-via-then-table-head+else-stands, else-table-head-via-else-table-head}
+use Rattle.closing.proofs.sweep.Goals.{else-table-head-via-then-table-head+else-stands}
+use Rattle.closing.proofs.sweep.Goals.{else-table-head-via-else-table-head}
 
 pub word_at-requires : goal.word_at-requires
 word_at-requires c =

@@ -14,7 +14,7 @@ use lib.ListN.{length, take, get_or, length-take}
 use lib.Seq.{take-length}
 use Rattle.sets.specs.Sets.{◌∈◌}
 use Rattle.records.proofs.Judging.{or_clear}
-use Rattle.records.specs.declared.Fault.{Fault}
+use Rattle.records.specs.Refusals.{Fault}
 use Rattle.sections.specs.Sections.{too_long, wrong_version}
 use Rattle.sections.proofs.Fits.{neither, not-given}
 use Rattle.files.specs.Files.{Blamed, model_bytes, trace_bytes, model_version, trace_version}

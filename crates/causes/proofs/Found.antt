@@ -14,7 +14,7 @@ use lib.Seq.{drop-drop, drop-append-le, take-append-le, take-length, length-take
 use Rattle.sets.proofs.Laws.{by-test}
 use Rattle.records.specs.Words.{word}
 use Rattle.records.specs.Records.{given, ◌or_else◌, record_of_lem, records, place_of, bare, first_from, first_fault_lem}
-use Rattle.records.specs.declared.Fault.{Fault}
+use Rattle.records.specs.Refusals.{Fault}
 use Rattle.records.proofs.Sections.{rest_of, record-fits, record-rest, first-here, first-later}
 use Rattle.records.proofs.Places.{place-record, place_le}
 use Rattle.sections.specs.Sections.{long, end_at, fits, payload, rest_fault_lem, moved, in_section, all_of, sizes, reader}

@@ -10,7 +10,7 @@ use native.Mathlib.Omega.{arith}
 use borrow.Author.Tests.{ltb-true}
 use lib.ListN.{length, take, drop, get_or}
 use Rattle.records.specs.Records.{place_of}
-use Rattle.records.specs.declared.Fault.{Fault}
+use Rattle.records.specs.Refusals.{Fault}
 use Rattle.lists.proofs.Laws.{passed-at}
 use Rattle.sections.specs.Sections.{section_at, fits, in_section, left_over, reader}
 use Rattle.sections.specs.declared.Role.{Role}

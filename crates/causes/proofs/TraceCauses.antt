@@ -14,7 +14,7 @@ use Rattle.sets.specs.Sets.{first}
 use Rattle.sets.proofs.Laws.{is_true, passes, either, below_or_from, first_hit, first-before}
 use Rattle.meaning.specs.Model.{aims}
 use Rattle.records.specs.Words.{word, words, odd}
-use Rattle.records.specs.declared.Fault.{Fault}
+use Rattle.records.specs.Refusals.{Fault}
 use Rattle.records.proofs.Words.{words-two, length-words, odd-length, even-length}
 use Rattle.records.proofs.Judging.{or_clear}
 use Rattle.sections.specs.Sections.{end_at, section_at, fits, payload, in_section, left_over, all_of}

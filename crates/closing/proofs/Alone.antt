@@ -10,6 +10,7 @@ use native.Mathlib.Omega.{arith}
 use borrow.Author.Tests.{lt-ltb, le-ltb, le-leb, leb-true, ltb-false}
 use lib.Dec.{T, leb, ltb}
 use lib.ListN.{length}
+use Rattle.std.specs.Prelude.{Result, Ok, Err}
 use Rattle.sets.specs.Sets.{Facts, first}
 use Rattle.sets.proofs.Laws.{is_true, passes, both, below_or_from, first_hit, first-before}
 use Rattle.meaning.specs.Model.{Clause}
@@ -19,13 +20,13 @@ use Rattle.facts.proofs.Laws.{beyond}
 use Rattle.records.specs.Records.{given, ◌or_else◌}
 use Rattle.records.proofs.Judging.{or_clear}
 use Rattle.records.specs.declared.Fault.{Fault}
+use Rattle.records.specs.Refusals.{answer_or}
 use Rattle.files.specs.Files.{fact_count, model_of_lem, shape_fault, model_fault}
 use Rattle.files.proofs.Traces.{fine-shape}
 use Rattle.files.proofs.Laws.{facts-bound, clauses-bound, clause-below}
 use Rattle.causes.proofs.Causes.{model-fault_range}
-use Rattle.closing.specs.Closing.{Bounded, ClosesUnder, no_room_lem, some_from, close_refusal, answer, Table, Closes}
+use Rattle.closing.specs.Closing.{Bounded, ClosesUnder, no_room_lem, some_from, state_refusal, close_refusal, Table, Closes}
 use Rattle.closing.specs.Closing.{ClosesKnown, ClosedExactly}
-use Rattle.closing.specs.declared.Closed.{Closed}
 use Rattle.closing.proofs.Laws.{filled_unique, filled-number, filled-smallest, answered_rounds, answered_bound}
 
 -- ---- room
@@ -43,7 +44,7 @@ first-at-most p n g e =
     ⊎_elim (λ h. absurd (true≢false (sym e ∙ first-before p n g h))) (λ h. h) (below_or_from g (first p n))
 
 -- what `any_from` answers is whether there is one
-pub some-from : (state : List ℕ) (F : ℕ) (r : Bool) → AnyFrom 512 state F r → r ≡ some_from F (members state)
+some-from : (state : List ℕ) (F : ℕ) (r : Bool) → AnyFrom 512 state F r → r ≡ some_from F (members state)
 unfolding some_from
 some-from state F true a =
     let (g, from, in-set) = a.some refl in
@@ -64,6 +65,11 @@ some-from state F false a =
         let (from, in-set) = (both (leb F f) (members state f)).0 (passes e) in
         subst T (a.none refl f (leb-true F f (is_true from))) in-set
 
+-- the same with the F at hand
+pub from-is : (m state : List ℕ) (F : ℕ) (r : Bool) → AnyFrom 512 state F r → F ≡ fact_count m
+    → r ≡ some_from (fact_count m) (members state)
+from-is m state F r a e = rw (← e) (some-from state F r a)
+
 -- ---- a judged model
 
 pub bounded : (m : List ℕ) → shape_fault m ≡ none → Bounded (model_of_lem m).clauses
@@ -75,32 +81,42 @@ bounded m fine = record {
 
 -- ---- the answers
 
+module _ {A E : Type 0} where
+  -- a refusal is answered where something refuses, with what it is
+  pub answer-err : (o : Option E) (x : A) (k : E) → Err k ≡ answer_or o x → o ≡ some k
+  answer-err none x k e = cc
+  answer-err (some j) x k e = cc
+
+  -- anything else where nothing does
+  pub answer-ok : (o : Option E) (x y : A) → Ok y ≡ answer_or o x → (o ≡ none) × (y ≡ x)
+  answer-ok none x y e = (refl, cc)
+  answer-ok (some j) x y e = cc
+
 module _ (m state before : List ℕ) where
-  -- a bit from F on refuses, and changes nothing
-  pub fine-refused : some_from (fact_count m) (members state) ≡ true
-      → ClosesKnown m state before before (Closed.Refused 6)
-  unfolding given answer Table
-  fine-refused e = record { answers = rw e; table = rw e refl }
+  -- a state that refuses changes nothing
+  pub fine-refused : (k : ℕ) → state_refusal m state ≡ some k → ClosesKnown m state before before (Err k)
+  unfolding Table
+  fine-refused k e = record { answers = rw e; table = rw e refl }
 
   -- otherwise the table is filled
-  pub fine-closed : (after : List ℕ) (n : ℕ) → some_from (fact_count m) (members state) ≡ false
-      → ClosesUnder (model_of_lem m).clauses state before after n → ClosesKnown m state before after (Closed.Rounds n)
-  unfolding given answer Table
-  fine-closed after n e c = record { answers = rw e (ap Closed.Rounds c.number); table = rw e c.filled }
+  pub fine-closed : (after : List ℕ) (n : ℕ) → state_refusal m state ≡ none
+      → ClosesUnder (model_of_lem m).clauses state before after n → ClosesKnown m state before after (Ok n)
+  unfolding Table
+  fine-closed after n e c = record { answers = rw e (ap Ok c.number); table = rw e c.filled }
 
   -- without room
-  pub no_room : no_room_lem state before ≡ true → Closes m state before before (Closed.Refused 1)
-  unfolding given ◌or_else◌ close_refusal answer Table
+  pub no_room : no_room_lem state before ≡ true → Closes m state before before (Err 1)
+  unfolding given ◌or_else◌ close_refusal Table
   no_room e = record { answers = rw e; table = rw e refl }
 
   -- a fault of the model refuses with its number
   pub model-refused : (f : Fault) → no_room_lem state before ≡ false → model_fault m ≡ some f
-      → Closes m state before before (Closed.Refused f.number)
-  unfolding given ◌or_else◌ close_refusal answer Table
+      → Closes m state before before (Err f.number)
+  unfolding given ◌or_else◌ close_refusal Table
   model-refused f e h = record { answers = rw (e, h); table = rw (e, h) refl }
 
   -- with none, the state tells
-  pub model-fine : (after : List ℕ) (r : Closed) → no_room_lem state before ≡ false → model_fault m ≡ none
+  pub model-fine : (after : List ℕ) (r : Result ℕ ℕ) → no_room_lem state before ≡ false → model_fault m ≡ none
       → ClosesKnown m state before after r → Closes m state before after r
   unfolding given ◌or_else◌ close_refusal
   model-fine after r e h c = record { answers = rw (e, h) c.answers; table = rw (e, h) c.table }
@@ -130,7 +146,7 @@ table_unique (some k) cs S before a b x y = x ∙ sym y
 
 -- Two results of closing that meet its promise for the same model, state and table are equal, the answer and every
 -- entry.
-pub closes_unique : {model state before a b : List ℕ} {r s : Closed} → Closes model state before a r
+pub closes_unique : {model state before a b : List ℕ} {r s : Result ℕ ℕ} → Closes model state before a r
     → Closes model state before b s → (r ≡ s) × (a ≡ b)
 closes_unique {model} {state} {before} {a} {b} x y = (
   x.answers ∙ sym y.answers,
@@ -155,16 +171,16 @@ unrefused m state table e = go (no_room_lem state table) (model_fault m) refl e
 -- Whatever model, state and table are lent: where closing answers rounds, the facts that the table numbers are HC of
 -- the state, each of the first 4,096 entries is its fact's round number, and the answer is the number of rounds, at
 -- most the different heads missing from the state.
-pub closing_exactly : {model state before after : List ℕ} {n : ℕ} → Closes model state before after (Closed.Rounds n)
+pub closing_exactly : {model state before after : List ℕ} {n : ℕ} → Closes model state before after (Ok n)
     → ClosedExactly (model_of_lem model).clauses (members state) before after n
-unfolding answer Table
+unfolding Table
 closing_exactly {model} {state} {before} {after} {n} closes =
     go (close_refusal model state before) refl closes.answers closes.table
   where
     cs : List Clause
     cs = (model_of_lem model).clauses
 
-    go : (r : Option ℕ) → close_refusal model state before ≡ r → Closed.Rounds n ≡ answer r (rounds cs (members state))
+    go : (r : Option ℕ) → close_refusal model state before ≡ r → Ok n ≡ answer_or r (rounds cs (members state))
         → Table r cs (members state) before after → ClosedExactly cs (members state) before after n
     go (some k) _ e _ = let z : ◌≡◌ {A = ℕ} 0 1 = cc in absurd (omega arith)
     go none fine e filled =

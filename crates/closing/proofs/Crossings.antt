@@ -9,6 +9,7 @@ use mathlib.Core.Option.{Option, none, some, none-ne-some, some-injective}
 use native.Mathlib.Omega.{arith}
 use borrow.Author.Tests.{ltb-true, ltb-false}
 use lib.ListN.{length}
+use Rattle.std.specs.Prelude.{Result, Ok, Err}
 use Rattle.sets.proofs.Laws.{by-test, below_or_from}
 use Rattle.meaning.specs.Model.{Clause}
 use Rattle.meaning.specs.Rounds.{rounds, closure}
@@ -19,17 +20,17 @@ use Rattle.facts.specs.Facts.{members}
 use Rattle.facts.proofs.Laws.{beyond}
 use Rattle.records.specs.Records.{given, ◌or_else◌}
 use Rattle.records.specs.declared.Fault.{Fault}
+use Rattle.records.specs.Refusals.{answer_or}
 use Rattle.files.specs.Files.{model_of_lem, shape_fault, model_fault}
 use Rattle.files.proofs.Traces.{fine-shape}
 use Rattle.causes.proofs.Exact.{model_exactly}
 use Rattle.indexing.proofs.Laws.{same_parts}
+use Rattle.worklist.specs.declared.Worked.{Worked}
 use Rattle.worklist.proofs.Laws.{judged-model}
-use Rattle.closing.specs.Closing.{no_room_lem, no_places_lem, close_refusal, close_refusal_indexed, answer, answer_indexed}
+use Rattle.closing.specs.Closing.{no_room_lem, no_places_lem, close_refusal, close_refusal_indexed}
 use Rattle.closing.specs.Closing.{Table, Closes, IndexHolds, Index, Crosses, ClosesIndexed, RightAlone}
 use Rattle.closing.specs.Closing.{Answerable, uncrossed, IndexExactly, CrossedExactly, IndexShort}
 use Rattle.closing.specs.Closing.{Bounded, RefusedIndexed}
-use Rattle.closing.specs.declared.Closed.{Closed}
-use Rattle.closing.specs.declared.Crossed.{Crossed}
 use Rattle.closing.proofs.Alone.{bounded, never-eight, table_unique, closes_unique, closing_exactly}
 use Rattle.closing.proofs.Refused.{short-is, room-is, alone, short, refusal-cause, cause-one, cause_answerable}
 use Rattle.closing.proofs.Refused.{closing_answered}
@@ -46,8 +47,8 @@ index-left (some k) cs before a b x y = x ∙ sym y
 
 -- Two results of closing with an index that meet its promise for the same model, state, table and index are equal, the
 -- answer and every entry of both.
-pub crossed_unique : {m state before a b ix ia ib : List ℕ} {r s : Crossed} → ClosesIndexed m state before a ix ia r
-    → ClosesIndexed m state before b ix ib s → (r ≡ s) × (a ≡ b) × (ia ≡ ib)
+pub crossed_unique : {m state before a b ix ia ib : List ℕ} {r s : Result Worked ℕ}
+    → ClosesIndexed m state before a ix ia r → ClosesIndexed m state before b ix ib s → (r ≡ s) × (a ≡ b) × (ia ≡ ib)
 crossed_unique {m} {state} {before} {a} {b} {ix} {ia} {ib} x y =
     let refused = close_refusal_indexed m state before ix in (
       x.answers ∙ sym y.answers,
@@ -127,61 +128,62 @@ cause-one-indexed (RefusedIndexed.other _ c) (RefusedIndexed.other _ d) = cause-
 
 -- ---- what is answered
 
-uncrossed-answer : (refused : Option ℕ) (n crossings : ℕ)
-    → uncrossed (answer_indexed refused n crossings) ≡ answer refused n
-unfolding uncrossed answer_indexed answer
-uncrossed-answer none n crossings = refl
-uncrossed-answer (some k) n crossings = refl
+uncrossed-answer : (refused : Option ℕ) (w : Worked)
+    → uncrossed (answer_or refused w) ≡ answer_or refused w.rounds
+uncrossed-answer none w = refl
+uncrossed-answer (some k) w = refl
 
 module _ {m state before after ix ix' : List ℕ} where
   -- what an answer says of what refuses
-  crosses_some : (refused : Option ℕ) {k : ℕ} → Crosses refused m state before after ix ix' (Crossed.Refused k)
+  crosses_some : (refused : Option ℕ) {k : ℕ} → Crosses refused m state before after ix ix' (Err k)
       → (refused ≡ some k) × (after ≡ before) × (ix' ≡ ix)
-  unfolding answer_indexed Table Index
+  unfolding Table Index
   crosses_some none c = let z : ◌≡◌ {A = ℕ} 0 1 = cc in absurd (omega arith)
   crosses_some (some j) {k} c = let is : j ≡ k = cc in (ap some is, c.table, c.index)
 
-  crosses_none : (refused : Option ℕ) {n crossings : ℕ}
-      → Crosses refused m state before after ix ix' (Crossed.Rounds n crossings)
-      → (refused ≡ none) × (crossings ≡ places_in (closure (model_of_lem m).clauses (members state)) (model_of_lem m).clauses)
+  crosses_none : (refused : Option ℕ) {w : Worked}
+      → Crosses refused m state before after ix ix' (Ok w)
+      → (refused ≡ none)
+      × (w.crossings ≡ places_in (closure (model_of_lem m).clauses (members state)) (model_of_lem m).clauses)
       × IndexHolds (model_of_lem m).clauses ix ix'
-  unfolding answer_indexed Index
-  crosses_none none {n} {crossings} c =
-      let is : crossings ≡ places_in (closure (model_of_lem m).clauses (members state)) (model_of_lem m).clauses = cc in
+  unfolding Index
+  crosses_none none {w} c =
+      let is : w.crossings ≡ places_in (closure (model_of_lem m).clauses (members state)) (model_of_lem m).clauses =
+      cc in
       (refl, is, c.index)
   crosses_none (some j) c = let z : ◌≡◌ {A = ℕ} 0 1 = cc in absurd (omega arith)
 
   -- Where the index is not refused, the answer and the table are those of closing without one.
-  uncrossed_closes : {r : Crossed} → (IndexShort m state before ix → ⊥) → ClosesIndexed m state before after ix ix' r
+  uncrossed_closes : {r : Result Worked ℕ} → (IndexShort m state before ix → ⊥)
+      → ClosesIndexed m state before after ix ix' r
       → Closes m state before after (uncrossed r)
   uncrossed_closes n c =
       let same = same-refusal m state before ix n in
       record {
-        answers = ap uncrossed c.answers ∙ uncrossed-answer _ _ _
-            ∙ ap (λ (o : Option ℕ). answer o (rounds (model_of_lem m).clauses (members state))) same;
+        answers = ap uncrossed c.answers ∙ uncrossed-answer _ _
+            ∙ ap (λ (o : Option ℕ). answer_or o (rounds (model_of_lem m).clauses (members state))) same;
         table = rw same at c.table;
       }
 
   -- "Round numbers .. equal the old ones": with room for the index, the refusal, or the number of rounds, and every
   -- entry of the table are those of closing without one.
-  pub crossed_as_closed : {r : Crossed} {s : Closed} {without : List ℕ}
+  pub crossed_as_closed : {r : Result Worked ℕ} {s : Result ℕ ℕ} {without : List ℕ}
       → body_places (model_of_lem m).clauses ≤ length ix → ClosesIndexed m state before after ix ix' r
       → Closes m state before without s → (uncrossed r ≡ s) × (after ≡ without)
   crossed_as_closed room c d = closes_unique (uncrossed_closes (λ s. omega (arith, s.places)) c) d
 
   -- Where it refuses, the number's cause is there and nothing before it, and nothing is written.
-  pub crossing_refused : {k : ℕ} → ClosesIndexed m state before after ix ix' (Crossed.Refused k)
+  pub crossing_refused : {k : ℕ} → ClosesIndexed m state before after ix ix' (Err k)
       → RefusedIndexed m state before ix k × (after ≡ before) × (ix' ≡ ix)
   crossing_refused c =
       let (e, table, index) = crosses_some _ c in
       (refused-cause m state before ix e, table, index)
 
-  module _ {n crossings : ℕ} (c : ClosesIndexed m state before after ix ix' (Crossed.Rounds n crossings)) where
+  module _ {w : Worked} (c : ClosesIndexed m state before after ix ix' (Ok w)) where
     not_short : IndexShort m state before ix → ⊥
     not_short = unrefused-room m state before ix (crosses_none _ c).0
 
-    closed : Closes m state before after (Closed.Rounds n)
-    unfolding uncrossed
+    closed : Closes m state before after (Ok w.rounds)
     closed = uncrossed_closes not_short c
 
     -- Where it answers, closing without an index does, and the index has room.
@@ -205,7 +207,7 @@ module _ {m state before after ix ix' : List ℕ} where
     -- Then the table and the number of rounds are those of demand 3, and the crossings the steps of the worklist and
     -- the body places whose fact is in the closure, of all of which the index holds the clauses' numbers.
     pub crossing-exactly
-        : CrossedExactly (model_of_lem m).clauses (members state) before after ix ix' n crossings
+        : CrossedExactly (model_of_lem m).clauses (members state) before after ix ix' w.rounds w.crossings
     crossing-exactly =
         let (_, is, holds) = crosses_none _ c in
         let worked = is ∙ sym (worked-crossings clauses) in
@@ -218,14 +220,14 @@ module _ {m state before after ix ix' : List ℕ} where
         }
 
 -- It refuses with a number exactly if that number's cause is there.
-pub crossing_numbers : {m state before after ix ix' : List ℕ} {r : Crossed}
+pub crossing_numbers : {m state before after ix ix' : List ℕ} {r : Result Worked ℕ}
     → ClosesIndexed m state before after ix ix' r
-    → (k : ℕ) → (r ≡ Crossed.Refused k) ↔ RefusedIndexed m state before ix k
+    → (k : ℕ) → (r ≡ Err k) ↔ RefusedIndexed m state before ix k
 crossing_numbers {m} {state} {before} {after} {ix} {ix'} {r} c k =
     (λ e. (crossing_refused (subst (ClosesIndexed m state before after ix ix') e c)).0, go r c)
   where
-    go : (r : Crossed) → ClosesIndexed m state before after ix ix' r → {k : ℕ} → RefusedIndexed m state before ix k
-        → r ≡ Crossed.Refused k
-    go (Crossed.Rounds n x) c (RefusedIndexed.index s) = absurd (not_short c s)
-    go (Crossed.Rounds n x) c (RefusedIndexed.other _ cause) = absurd (cause_answerable (crossing_answered c).0 cause)
-    go (Crossed.Refused j) c cause = ap Crossed.Refused (cause-one-indexed (crossing_refused c).0 cause)
+    go : (r : Result Worked ℕ) → ClosesIndexed m state before after ix ix' r → {k : ℕ} → RefusedIndexed m state before ix k
+        → r ≡ Err k
+    go (Ok w) c (RefusedIndexed.index s) = absurd (not_short c s)
+    go (Ok w) c (RefusedIndexed.other _ cause) = absurd (cause_answerable (crossing_answered c).0 cause)
+    go (Err j) c cause = ap Err (cause-one-indexed (crossing_refused c).0 cause)

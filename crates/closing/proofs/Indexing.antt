@@ -6,6 +6,7 @@ use mathlib.Core.List.{List}
 use mathlib.Core.Option.{Option, none, some}
 use native.Mathlib.Omega.{arith}
 use lib.ListN.{length, take, replicate}
+use Rattle.std.specs.Prelude.{Result, Ok, Err}
 use lib.Seq.{get_or-take, length-take-le}
 use Rattle.facts.specs.Facts.{members}
 use Rattle.records.specs.Records.{given, ◌or_else◌}
@@ -18,10 +19,9 @@ use Rattle.indexing.specs.Placing.{Cleared}
 use Rattle.worklist.specs.Working.{Works}
 use Rattle.worklist.specs.declared.Worked.{Worked}
 use Rattle.worklist.proofs.Laws.{zeros_at}
-use Rattle.closing.specs.Closing.{no_room_lem, some_from, state_refusal}
+use Rattle.closing.specs.Closing.{no_room_lem, state_refusal}
 use Rattle.closing.specs.Closing.{close_refusal_indexed, no_places_lem, IndexHolds, Index}
-use Rattle.closing.specs.Closing.{Table, answer_indexed, Builds, Crosses}
-use Rattle.closing.specs.declared.Crossed.{Crossed}
+use Rattle.closing.specs.Closing.{Table, Builds, Crosses}
 
 -- ---- the index
 
@@ -57,23 +57,18 @@ builds m fine {section} {before} {after} {ends} {starts} {n} is count found =
 
 -- ---- the answers
 
--- A bit from F on refuses.
-pub state-refused : (m state : List ℕ) → some_from (fact_count m) (members state) ≡ true → state_refusal m state ≡ some 6
-unfolding given
-state-refused m state e = rw e
-
 module _ (m state before ix : List ℕ) where
   -- a refusal changes nothing
   pub crosses_refused : (refused : Option ℕ) (k : ℕ) → refused ≡ some k
-      → Crosses refused m state before before ix ix (Crossed.Refused k)
-  unfolding answer_indexed Table Index
+      → Crosses refused m state before before ix ix (Err k)
+  unfolding Table Index
   crosses_refused refused k e = rw e (record { answers = refl; table = refl; index = refl })
 
   -- otherwise the table is filled and the index built
-  pub crosses_worked : {after ix' : List ℕ} {w : Worked} → some_from (fact_count m) (members state) ≡ false
+  pub crosses_worked : {after ix' : List ℕ} {w : Worked} → state_refusal m state ≡ none
       → Works (model_of_lem m).clauses (members state) before after w → IndexHolds (model_of_lem m).clauses ix ix'
-      → Crosses (state_refusal m state) m state before after ix ix' (Crossed.Rounds w.rounds w.crossings)
-  unfolding given answer_indexed Table Index
+      → Crosses (state_refusal m state) m state before after ix ix' (Ok w)
+  unfolding Table Index
   crosses_worked e w holds =
       rw e
       (record {
@@ -104,6 +99,6 @@ module _ (m state before ix : List ℕ) where
     indexed-fine fine e = rw (room, fine, e)
 
 -- What is left to promise is promised for what refuses the whole.
-pub crosses_as : {whole rest : Option ℕ} {m state before after ix ix' : List ℕ} {r : Crossed} → whole ≡ rest
+pub crosses_as : {whole rest : Option ℕ} {m state before after ix ix' : List ℕ} {r : Result Worked ℕ} → whole ≡ rest
     → Crosses rest m state before after ix ix' r → Crosses whole m state before after ix ix' r
 crosses_as e c = rw e c

@@ -3,6 +3,7 @@
 pub mod Laws
 pub mod Clauses
 pub mod Bodies
+pub mod Starting
 pub mod Sweeps
 pub mod Ways
 pub mod Rounds

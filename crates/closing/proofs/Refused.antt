@@ -10,19 +10,20 @@ use native.Mathlib.Omega.{arith}
 use borrow.Author.Tests.{ltb-true, ltb-false, le-leb, leb-true}
 use lib.Dec.{T, leb, ltb}
 use lib.ListN.{length}
+use Rattle.std.specs.Prelude.{Result, Ok, Err}
 use Rattle.sets.specs.Sets.{first}
 use Rattle.sets.proofs.Laws.{is_true, passes, fails, both, by-test, below_or_from, first_hit, first-before}
 use Rattle.facts.specs.Facts.{members}
 use Rattle.facts.proofs.Laws.{beyond}
 use Rattle.records.specs.Records.{given, ◌or_else◌}
 use Rattle.records.specs.declared.Fault.{Fault}
+use Rattle.records.specs.Refusals.{answer_or}
 use Rattle.files.specs.Files.{fact_count, model_fault, model_of_lem}
 use Rattle.causes.proofs.Causes.{alone-cause}
 use Rattle.causes.proofs.Exact.{model-right, model-number, model_exactly}
 use Rattle.meaning.specs.Rounds.{rounds}
-use Rattle.closing.specs.Closing.{no_room_lem, some_from, state_refusal, close_refusal, answer, Table, Closes}
+use Rattle.closing.specs.Closing.{no_room_lem, some_from, state_refusal, close_refusal, Table, Closes}
 use Rattle.closing.specs.Closing.{Room, RightAlone, RefusedFor, Answerable}
-use Rattle.closing.specs.declared.Closed.{Closed}
 
 -- ---- room
 
@@ -165,33 +166,32 @@ module _ {m state table : List ℕ} where
 
 module _ {m state before after : List ℕ} where
   -- Where closing refuses, the number's cause is there and nothing before it, and the table is unchanged.
-  pub closing_refused : {k : ℕ} → Closes m state before after (Closed.Refused k)
+  pub closing_refused : {k : ℕ} → Closes m state before after (Err k)
       → RefusedFor m state before k × (after ≡ before)
-  unfolding answer Table
+  unfolding Table
   closing_refused {k} c = go (close_refusal m state before) refl c.answers c.table
     where
       go : (r : Option ℕ) → close_refusal m state before ≡ r
-          → Closed.Refused k ≡ answer r (rounds (model_of_lem m).clauses (members state))
+          → Err k ≡ answer_or r (rounds (model_of_lem m).clauses (members state))
           → Table r (model_of_lem m).clauses (members state) before after → RefusedFor m state before k × (after ≡ before)
       go none e a t = let z : ◌≡◌ {A = ℕ} 0 1 = cc in absurd (omega arith)
       go (some j) e a t = let is : j ≡ k = cc in (refusal-cause m state before (rw is at e), t)
 
   -- Where it answers rounds, there is room, the model is well_formed and the state has no fact from F on.
-  pub closing_answered : {n : ℕ} → Closes m state before after (Closed.Rounds n) → Answerable m state before
-  unfolding answer
+  pub closing_answered : {n : ℕ} → Closes m state before after (Ok n) → Answerable m state before
   closing_answered {n} c = go (close_refusal m state before) refl c.answers
     where
       go : (r : Option ℕ) → close_refusal m state before ≡ r
-          → Closed.Rounds n ≡ answer r (rounds (model_of_lem m).clauses (members state)) → Answerable m state before
+          → Ok n ≡ answer_or r (rounds (model_of_lem m).clauses (members state)) → Answerable m state before
       go none e a = refusal-none m state before e
       go (some j) e a = let z : ◌≡◌ {A = ℕ} 0 1 = cc in absurd (omega arith)
 
 -- Closing refuses with a number exactly if that number's cause is there.
-pub closing_numbers : {m state before after : List ℕ} {r : Closed} → Closes m state before after r
-    → (k : ℕ) → (r ≡ Closed.Refused k) ↔ RefusedFor m state before k
+pub closing_numbers : {m state before after : List ℕ} {r : Result ℕ ℕ} → Closes m state before after r
+    → (k : ℕ) → (r ≡ Err k) ↔ RefusedFor m state before k
 closing_numbers {m} {state} {before} {after} {r} c k =
     (λ e. (closing_refused (subst (Closes m state before after) e c)).0, λ cause. go r c cause)
   where
-    go : (r : Closed) → Closes m state before after r → RefusedFor m state before k → r ≡ Closed.Refused k
-    go (Closed.Rounds n) c cause = absurd (cause_answerable (closing_answered c) cause)
-    go (Closed.Refused j) c cause = ap Closed.Refused (cause-one (closing_refused c).0 cause)
+    go : (r : Result ℕ ℕ) → Closes m state before after r → RefusedFor m state before k → r ≡ Err k
+    go (Ok n) c cause = absurd (cause_answerable (closing_answered c) cause)
+    go (Err j) c cause = ap Err (cause-one (closing_refused c).0 cause)

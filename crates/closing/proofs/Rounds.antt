@@ -11,14 +11,14 @@ use native.Mathlib.Numerals.{add-one}
 use native.Mathlib.Omega.{arith}
 use lib.Dec.{leb, eqb}
 use lib.ListN.{get_or}
-use borrow.Author.Tests.{le-leb, lt-leb, ne_eqb}
+use borrow.Author.Tests.{le-leb, lt-leb, ne_eqb, not-true, not-false}
 use Rattle.sets.specs.Sets.{Facts, every, any, first, ◌∈◌}
 use Rattle.meaning.specs.Model.{Clause}
 use Rattle.meaning.specs.Rounds.{stands, next, round, obeys, rounds, closure, round_number}
 use Rattle.sets.proofs.Laws.{is_false, fails, first_le, first-before, first_passes, first-is}
 use Rattle.meaning.proofs.Closing.{next-obeys, round_mono, rounds-before, rounds-bound}
 use Rattle.meaning.proofs.Closing.{missing_heads-bound, closure-obeys}
-use Rattle.closing.specs.Closing.{Bounded}
+use Rattle.closing.specs.Closing.{Bounded, Written}
 use Rattle.closing.specs.Sweep.{stored, up_to, outside, swept, adds}
 
 -- ---- tests on lists that agree
@@ -54,12 +54,12 @@ number_after cs S r f = cond (round cs S r f) (first (λ q. round cs S q f) r) 6
 
 module _ (cs : List Clause) (S : Facts) where
   -- At the start they are those of round 0.
-  pub number-start : (f : ℕ) → stored S f ≡ number_after cs S 0 f
+  number-start : (f : ℕ) → stored S f ≡ number_after cs S 0 f
   unfolding stored number_after
   number-start f = refl
 
   -- After the last round they are the round numbers.
-  pub number-last : (f : ℕ) → number_after cs S (rounds cs S) f ≡ round_number cs S f
+  number-last : (f : ℕ) → number_after cs S (rounds cs S) f ≡ round_number cs S f
   unfolding number_after round_number
   number-last f = refl
 
@@ -140,7 +140,7 @@ module _ (cs : List Clause) (S : Facts) (b : Bounded cs) (r : ℕ) (fits : r < 6
   stands-is c m = every-same (up_to table r) (round cs S r) c.body (λ x i. up_to_is x (b.bodies c m x i))
 
   -- After a sweep it holds those of the next round.
-  pub swept-is : (f : ℕ) → f < 4096 → swept cs r table f ≡ number_after cs S (suc r) f
+  swept-is : (f : ℕ) → f < 4096 → swept cs r table f ≡ number_after cs S (suc r) f
   unfolding swept
   swept-is f l =
       rw (outside-is f l, holds f l, add-one)
@@ -149,7 +149,7 @@ module _ (cs : List Clause) (S : Facts) (b : Bounded cs) (r : ℕ) (fits : r < 6
       ∙ number-next cs S r f)
 
   -- The sweep adds a head exactly if round r doesn't obey the clauses.
-  pub adds-is : adds cs r table ≡ not (obeys cs (round cs S r))
+  adds-is : adds cs r table ≡ not (obeys cs (round cs S r))
   unfolding adds obeys
   adds-is =
       any-fails _ _ cs
@@ -166,22 +166,67 @@ module _ (cs : List Clause) (S : Facts) (b : Bounded cs) (r : ℕ) (fits : r < 6
 
 module _ (cs : List Clause) (S : Facts) (r : ℕ) (within : r ≤ rounds cs S) where
   -- A round that doesn't obey the clauses is not the last one.
-  pub not_last : obeys cs (round cs S r) ≡ false → r < rounds cs S
+  not_last : obeys cs (round cs S r) ≡ false → r < rounds cs S
   unfolding closure
   not_last e =
       elim (eq-or-lt_of_le within) [ inl i ↦ absurd (true≢false (sym (closure-obeys cs S) ∙ rw (← i) e)) | inr l ↦ l ]
 
   -- A round that obeys them is.
-  pub is_last : obeys cs (round cs S r) ≡ true → r ≡ rounds cs S
+  is_last : obeys cs (round cs S r) ≡ true → r ≡ rounds cs S
   is_last e = elim (eq-or-lt_of_le within) [ inl i ↦ i | inr l ↦ absurd (true≢false (sym e ∙ rounds-before cs S r l)) ]
 
   -- The numbers that one more sweep then leaves are the round numbers.
-  pub number-end : obeys cs (round cs S r) ≡ true → (f : ℕ) → number_after cs S (suc r) f ≡ round_number cs S f
+  number-end : obeys cs (round cs S r) ≡ true → (f : ℕ) → number_after cs S (suc r) f ≡ round_number cs S f
   unfolding round
   number-end e f =
       number-still cs S r f ((next-obeys cs (round cs S r)).0 e f) ∙ ap (λ (q : ℕ). number_after cs S q f) (is_last e)
       ∙ number-last cs S f
 
 -- No round has a number that the table can't hold.
-pub rounds-fit : (cs : List Clause) (S : Facts) → Bounded cs → rounds cs S ≤ 4096
+rounds-fit : (cs : List Clause) (S : Facts) → Bounded cs → rounds cs S ≤ 4096
 rounds-fit cs S b = omega (arith, rounds-bound cs S, missing_heads-bound cs S, b.count)
+
+-- ---- a sweep of a table that holds round r's numbers
+
+-- Before the first sweep it holds round 0's.
+pub start-numbers : (cs : List Clause) (S : Facts) {before table : List ℕ} → Written (stored S) before table
+    → Written (number_after cs S 0) before table
+start-numbers cs S w =
+    record { as_long = w.as_long; entries = λ f l. w.entries f l ∙ number-start cs S f; beyond = w.beyond }
+
+module _ (cs : List Clause) (S : Facts) (b : Bounded cs) (r : ℕ) {before table : List ℕ} (within : r ≤ rounds cs S)
+    (holds : Written (number_after cs S r) before table) where
+  pub round_small : r ≤ 4096
+  round_small = omega (arith, rounds-fit cs S b)
+
+  module _ {added : Bool} (is : added ≡ adds cs r table) where
+    answered : added ≡ not (obeys cs (round cs S r))
+    answered = is ∙ adds-is cs S b r (omega (arith, round_small)) table holds.entries
+
+    -- Where it adds a head there are more rounds; ..
+    pub more_rounds : added ≡ true → r < rounds cs S
+    more_rounds e = not_last cs S r within (not-true _ (sym answered ∙ e))
+
+    -- .. where it adds none this is the last, and the next round's numbers are the round numbers.
+    obeyed : added ≡ false → obeys cs (round cs S r) ≡ true
+    obeyed e = not-false _ (sym answered ∙ e)
+
+    pub no-more_rounds : added ≡ false → r ≡ rounds cs S
+    no-more_rounds e = is_last cs S r within (obeyed e)
+
+    pub last-numbers : added ≡ false → {after : List ℕ} → Written (number_after cs S (suc r)) before after
+        → Written (round_number cs S) before after
+    last-numbers e w = record {
+      as_long = w.as_long;
+      entries = λ f l. w.entries f l ∙ number-end cs S r within (obeyed e) f;
+      beyond = w.beyond;
+    }
+
+  -- After it the table holds the next round's.
+  pub next-numbers : {after : List ℕ} → Written (swept cs r table) table after
+      → Written (number_after cs S (suc r)) before after
+  next-numbers w = record {
+    as_long = w.as_long ∙ holds.as_long;
+    entries = λ f l. w.entries f l ∙ swept-is cs S b r (omega (arith, round_small)) table holds.entries f l;
+    beyond = w.beyond ∙ holds.beyond;
+  }

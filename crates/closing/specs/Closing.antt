@@ -1,6 +1,7 @@
 -- What closing promises: the round table that it leaves and the number that it answers (document 01, "Closing is one
 -- part", "Buffers").
 use Rattle.std.specs.Prelude.{ℕ, ◌<◌, ◌≤◌, ◌≡◌, ◌⊎◌, Bool, false, not, ◌&&◌, ◌||◌, List, T, leb, ltb, eqb, length, get_or, take, drop}
+use Rattle.std.specs.Prelude.{Result, Ok, Err}
 use Rattle.std.proofs.Math.Option.{Option, none, some, map}
 use Rattle.sets.specs.Sets.{Facts, first, ◌∈◌}
 use Rattle.meaning.specs.Model.{Clause}
@@ -10,12 +11,12 @@ use Rattle.meaning.specs.Published.{HC}
 use Rattle.meaning.specs.Promises.{IsRounds, IsRoundNumber, IsIndex}
 use Rattle.facts.specs.Facts.{members}
 use Rattle.records.specs.Records.{given, ◌or_else◌}
+use Rattle.records.specs.Refusals.{answer_or}
 use Rattle.sections.specs.declared.Role.TheVariants.{Clauses}
 use Rattle.files.specs.Files.{section_of, fact_count, model_of_lem, model_fault}
 use Rattle.causes.specs.Causes.{ModelCause, RightModel, ModelStarts}
 use Rattle.worklist.specs.Working.{Placed, Listed}
-use Rattle.closing.specs.declared.Closed.{Closed}
-use Rattle.closing.specs.declared.Crossed.{Crossed}
+use Rattle.worklist.specs.declared.Worked.{Worked}
 
 -- ---- the round table
 
@@ -75,25 +76,21 @@ close_refusal model state table =
     or_else map (λ f. f.number) (model_fault model)
     or_else state_refusal model state
 
--- "A refusal .. is its number alone.", otherwise it "answers the number of rounds"
-unfoldable pub answer : Option ℕ → ℕ → Closed
-answer none n = Closed.Rounds n
-answer (some k) n = Closed.Refused k
-
 -- "On a refusal closing changes nothing. Otherwise it .. fills the round table as for a verdict"
 unfoldable pub Table : Option ℕ → List Clause → Facts → List ℕ → List ℕ → Type 0
 Table none cs S before after = Filled cs S before after
 Table (some k) cs S before after = after ≡ before
 
--- for the function within: what is left to promise for a model that nothing refuses and a table with room
-pub record ClosesKnown (model state before after : List ℕ) (r : Closed) : Type 0 where
+-- for the function within: what is left to promise for a model that nothing refuses and a table with room. "A refusal
+-- .. is its number alone.", otherwise it "answers the number of rounds"
+pub record ClosesKnown (model state before after : List ℕ) (r : Result ℕ ℕ) : Type 0 where
   pub answers : r
-      ≡ answer (state_refusal model state) (rounds (model_of_lem model).clauses (members state))
+      ≡ answer_or (state_refusal model state) (rounds (model_of_lem model).clauses (members state))
   pub table : Table (state_refusal model state) (model_of_lem model).clauses (members state) before after
 
 -- what closing promises: its answer, and every entry of the table
-pub record Closes (model state before after : List ℕ) (r : Closed) : Type 0 where
-  pub answers : r ≡ answer (close_refusal model state before) (rounds (model_of_lem model).clauses (members state))
+pub record Closes (model state before after : List ℕ) (r : Result ℕ ℕ) : Type 0 where
+  pub answers : r ≡ answer_or (close_refusal model state before) (rounds (model_of_lem model).clauses (members state))
   pub table : Table (close_refusal model state before) (model_of_lem model).clauses (members state) before after
 
 -- ---- with an index lent (document 02, wish 5)
@@ -132,22 +129,20 @@ close_refusal_indexed model state table index =
     or_else given (no_places_lem model index) 1
     or_else state_refusal model state
 
--- the number of rounds and "the count of crossings", or a refusal's number
-unfoldable pub answer_indexed : Option ℕ → ℕ → ℕ → Crossed
-answer_indexed none n crossings = Crossed.Rounds n crossings
-answer_indexed (some k) n crossings = Crossed.Refused k
-
--- what closing with an index leaves and answers, after what refuses it: "The count of crossings equals .. the number of
--- body places whose fact is in the closure."; its table is that of closing without one
-pub record Crosses (refused : Option ℕ) (model state before after ix ix' : List ℕ) (r : Crossed) : Type 0 where
+-- what closing with an index leaves and answers, after what refuses it: a refusal's number, or the number of rounds and
+-- "the count of crossings". "The count of crossings equals .. the number of body places whose fact is in the closure.";
+-- its table is that of closing without one
+pub record Crosses (refused : Option ℕ) (model state before after ix ix' : List ℕ) (r : Result Worked ℕ) : Type 0 where
   pub answers : r
-      ≡ answer_indexed refused (rounds (model_of_lem model).clauses (members state))
-      (places_in (closure (model_of_lem model).clauses (members state)) (model_of_lem model).clauses)
+      ≡ answer_or refused (record {
+        rounds = rounds (model_of_lem model).clauses (members state);
+        crossings = places_in (closure (model_of_lem model).clauses (members state)) (model_of_lem model).clauses;
+      })
   pub table : Table refused (model_of_lem model).clauses (members state) before after
   pub index : Index refused (model_of_lem model).clauses ix ix'
 
 -- what closing with an index promises: its answer, and every entry of the table and of the index
-abbrev pub ClosesIndexed : List ℕ → List ℕ → List ℕ → List ℕ → List ℕ → List ℕ → Crossed → Type 0
+abbrev pub ClosesIndexed : List ℕ → List ℕ → List ℕ → List ℕ → List ℕ → List ℕ → Result Worked ℕ → Type 0
 ClosesIndexed model state before after ix ix' r =
     Crosses (close_refusal_indexed model state before ix) model state before after ix ix' r
 
@@ -195,9 +190,9 @@ pub record Answerable (m state table : List ℕ) : Type 0 where
 -- ---- the same with an index lent (document 02, wish 5)
 
 -- what closing without an index answers, where one with it answers this
-unfoldable pub uncrossed : Crossed → Closed
-uncrossed (Crossed.Rounds n crossings) = Closed.Rounds n
-uncrossed (Crossed.Refused k) = Closed.Refused k
+abbrev pub uncrossed : Result Worked ℕ → Result ℕ ℕ
+uncrossed (Ok w) = Ok w.rounds
+uncrossed (Err k) = Err k
 
 -- "The lent index then holds each body place's clause number, by fact and then clause; its other entries stay."
 pub record IndexExactly (cs : List Clause) (before after : List ℕ) : Type 0 where

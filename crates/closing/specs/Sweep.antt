@@ -1,6 +1,6 @@
 -- What the parts of closing do to the round table: its numbers at the start, and after a sweep (document 01, "Rounds",
 -- "Buffers").
-use Rattle.std.specs.Prelude.{ℕ, ◌+◌, ◌/◌, ◌%◌, ◌^◌, ◌<◌, ◌≡◌, Bool, ◌&&◌, cond, List, leb, eqb, length, get_or, drop}
+use Rattle.std.specs.Prelude.{ℕ, ◌+◌, ◌/◌, ◌%◌, ◌^◌, ◌<◌, ◌≡◌, Bool, ◌&&◌, cond, List, leb, eqb, length, get_or}
 use Rattle.sets.specs.Sets.{Facts, any, ◌∈◌}
 use Rattle.meaning.specs.Model.{Clause}
 use Rattle.meaning.specs.Rounds.{stands}
@@ -12,13 +12,9 @@ use Rattle.records.specs.Words.{words}
 unfoldable pub stored : Facts → ℕ → ℕ
 stored S f = cond (S f) 0 65535
 
--- the numbers of a byte's first n facts, of eight, stand from `at` on; the entries before these eight and after them
--- are unchanged
-pub record Started (b at n : ℕ) (before after : List ℕ) : Type 0 where
-  pub as_long : length after ≡ length before
-  pub earlier : (f : ℕ) → f < at → get_or after f 0 ≡ get_or before f 0
-  pub entries : (k : ℕ) → k < n → get_or after (at + k) 0 ≡ cond (eqb (b / 2 ^ k % 2) 1) 0 65535
-  pub later : drop (at + 8) after ≡ drop (at + 8) before
+-- the eight entries are the numbers of a byte's facts
+abbrev pub Eight : ℕ → List ℕ → Type 0
+Eight b entries = (k : ℕ) → k < 8 → get_or entries k 0 ≡ cond (eqb (b / 2 ^ k % 2) 1) 0 65535
 
 -- ---- a sweep
 

@@ -4,11 +4,12 @@
 
 #![tactic(auto)]
 
-ghost use Rattle.std.specs.Prelude.{◌≡◌, false, cond, eqb, ◌+◌, ◌≤◌, ◌<◌, length, get_or, drop};
+ghost use Rattle.std.specs.Prelude.{◌≡◌, false, cond, eqb, ◌+◌, ◌≤◌, ◌<◌, length, drop};
 ghost use Rattle.std.proofs.Math.Option.{none};
 ghost use Rattle.sets.specs.Sets.{every};
 ghost use Rattle.facts.specs.Facts.{members};
 ghost use Rattle.records.specs.Words.{word, words};
+ghost use Rattle.records.specs.Refusals.{answer_or};
 ghost use Rattle.lists.specs.Lists.{AllCut};
 ghost use Rattle.records.specs.declared.Kind.{Kind};
 ghost use Rattle.sections.specs.declared.Role.{Role};
@@ -17,58 +18,38 @@ ghost use Rattle.indexing.specs.Placing.{Cleared};
 ghost use Rattle.worklist.specs.Working.{Placed, Listed, WorksFor};
 ghost use Rattle.closing.specs.Closing.{Written, Bounded, Way, ClosesUnder, ClosesKnown, Closes};
 ghost use Rattle.closing.specs.Closing.{no_room_lem, state_refusal, no_places_lem, Builds, Crosses, ClosesIndexed};
-ghost use Rattle.closing.specs.Sweep.{Started, stored, Body, up_to, swept, adds};
+ghost use Rattle.closing.specs.Sweep.{Eight, stored, Body, up_to, swept, adds};
 
 use files::{Judged, held, model};
 use sections::Role;
-use worklist::{Index, Worked};
-
-// What closing answers: the number of rounds, or a refusal's number.
-#[derive(Clone, Copy)]
-pub enum Closed {
-    Rounds(usize),
-    Refused(u8),
-}
-
-// What closing with an index answers: the numbers of rounds and of body places crossed, or a refusal's number.
-#[derive(Clone, Copy)]
-pub enum Crossed {
-    Rounds(usize, usize),
-    Refused(u8),
-}
+use worklist::Index;
+pub use worklist::Worked;
 
 // The state's bytes: eight facts each.
 const BYTES: usize = 512;
 
 const OUTSIDE: u16 = 65535;
 
-// No fact: closing for it goes through all rounds.
+// No fact: closing for it goes through all rounds. The worklist takes the fact that is asked for as a number.
 const NO_FACT: usize = 4096;
 
 // So many clauses are swept before the worklist has looked through its table.
 const FEW: usize = 32;
 
-// The byte at a place of the state, 0 where the state is shorter.
-fn byte_at(state: &[u8], i: usize) -> u16
-    ensures { result ≡ get_or state.now i 0 }
-{
-    if i < state.len() { state[i] as u16 } else { 0 }
-}
-
 // Round 0 of a fact, by its bit.
-fn number(bit: u16) -> u16
+fn number(bit: u8) -> u16
     ensures { result ≡ cond (eqb bit 1) 0 65535 }
 {
     if bit == 1 { 0 } else { OUTSIDE }
 }
 
 // Round 0 of the eight facts of one byte.
-fn start_byte(b: u16, table: &mut [u16], at: usize)
-    requires { at + 8 ≤ length table.old }
-    ensures { Started b at 8 table.old table.new }
+fn start_byte(byte: u8, eight: &mut [u16])
+    requires { length eight.old ≡ 8 }
+    ensures { Eight byte eight.new }
 {
-    for k in 0..8 {
-        table[at + k] = number((b >> k) % 2);
+    for (k, round) in eight.iter_mut().enumerate() {
+        *round = number((byte >> k) % 2);
     }
 }
 
@@ -77,9 +58,7 @@ fn clear(table: &mut [u16])
     requires { 4096 ≤ length table.old }
     ensures { Written (λ _. 65535) table.old table.new }
 {
-    for f in 0..4096 {
-        table[f] = OUTSIDE;
-    }
+    table[..4096].fill(OUTSIDE);
 }
 
 // Round 0: each stored fact has the number 0, every other none.
@@ -88,11 +67,12 @@ fn start(state: &[u8], table: &mut [u16])
     ensures { Written (stored (members state.now)) table.old table.new }
 {
     clear(table);
-    for i in 0..BYTES {
-        let b = byte_at(state, i);
+    // The table's entries by their place: once `chunks_mut` is over, a proof knows the table's length alone.
+    let bytes = &state[..state.len().min(BYTES)];
+    for (i, byte) in bytes.iter().enumerate() {
         // Most bytes have no fact.
-        if b > 0 {
-            start_byte(b, table, i * 8);
+        if *byte > 0 {
+            start_byte(*byte, &mut table[i * 8..i * 8 + 8]);
         }
     }
 }
@@ -110,19 +90,14 @@ fn stands(body: &[u8], table: &[u16], r: u16) -> bool
     requires { Body body.now × (4096 ≤ length table.now) }
     ensures { result ≡ every (up_to table.now r) (words body.now) }
 {
-    let mut i = 0;
     // Two facts in a turn: one by one, long bodies take half as long again, since where a body fails is hard to guess.
-    while 2 < body.len() - i {
-        if fact_stands(body, i, table, r) & fact_stands(body, i + 2, table, r) {
-            i += 4;
-        } else {
+    let (pairs, last) = body.as_chunks::<4>();
+    for pair in pairs {
+        if !(fact_stands(pair, 0, table, r) & fact_stands(pair, 2, table, r)) {
             return false;
         }
     }
-    if i < body.len() {
-        return fact_stands(body, i, table, r);
-    }
-    true
+    last.is_empty() || fact_stands(last, 0, table, r)
 }
 
 // One round more: every head whose body stands in round r, and that has no number yet, gets r + 1. Answers whether
@@ -135,18 +110,16 @@ fn sweep(clauses: &[u8], table: &mut [u16], r: u16) -> bool
         table.old table.new }
 {
     let mut added = false;
-    let mut at = 0;
-    while at < clauses.len() {
-        let end = at + 2 + records::word_at(clauses, at);
-        let clause = &clauses[at..end];
+    let mut rest = clauses;
+    // Over `Records`, which looks whether each is whole, long bodies take twice as long and short ones a fifth longer.
+    while !rest.is_empty() {
+        let (clause, after) = rest.split_at(2 + records::word_at(rest, 0));
         let head = records::word_at(clause, 2);
-        if table[head] == OUTSIDE {
-            if stands(&clause[4..], table, r) {
-                table[head] = r + 1;
-                added = true;
-            }
+        if table[head] == OUTSIDE && stands(&clause[4..], table, r) {
+            table[head] = r + 1;
+            added = true;
         }
-        at = end;
+        rest = after;
     }
     added
 }
@@ -159,6 +132,7 @@ fn close_clauses(clauses: &[u8], state: &[u8], table: &mut [u16]) -> usize
         table.new result }
 {
     start(state, table);
+    // Counted here: a sweep needs its round's number.
     let mut r: u16 = 0;
     while sweep(clauses, table, r) {
         r += 1;
@@ -224,16 +198,25 @@ pub fn close_judged(
     worked.rounds
 }
 
+// Refuses a state with a fact of F or more.
+fn known_facts(model: &[u8], state: &[u8]) -> Result<(), u8>
+    requires { shape_fault model.now ≡ none }
+    ensures { result ≡ answer_or (state_refusal model.now state.now) tt }
+{
+    if facts::any_from(state, 512, held::facts(model)) {
+        return Err(6);
+    }
+    Ok(())
+}
+
 // Closes under a judged model's clauses; a state with a fact of F or more is refused.
-fn close_known(model: &[u8], state: &[u8], table: &mut [u16]) -> Closed
+fn close_known(model: &[u8], state: &[u8], table: &mut [u16]) -> Result<usize, u8>
     requires { (shape_fault model.now ≡ none) × (4096 ≤ length table.old) }
     ensures { ClosesKnown model.now state.now table.old
         table.new result }
 {
-    if facts::any_from(state, 512, held::facts(model)) {
-        return Closed::Refused(6);
-    }
-    Closed::Rounds(close_swept(model, state, table))
+    known_facts(model, state)?;
+    Ok(close_swept(model, state, table))
 }
 
 // Whether what is lent is too short for a state or its round numbers.
@@ -244,15 +227,15 @@ pub fn no_room(state: &[u8], table: &[u16]) -> bool
 }
 
 // Closing called by itself: judges what it is lent, fills the round table and answers the number of rounds, or refuses
-// and changes nothing.
-pub fn close(model: &[u8], state: &[u8], table: &mut [u16]) -> Closed
+// with a number and changes nothing.
+pub fn close(model: &[u8], state: &[u8], table: &mut [u16]) -> Result<usize, u8>
     ensures { Closes model.now state.now table.old table.new result }
 {
     if no_room(state, table) {
-        return Closed::Refused(1);
+        return Err(1);
     }
     match model::judge_model(model) {
-        Judged::Fault(fault) => Closed::Refused(fault.number),
+        Judged::Fault(fault) => Err(fault.number),
         Judged::Fine(_) => close_known(model, state, table),
     }
 }
@@ -284,36 +267,44 @@ pub fn build_index(
 }
 
 // Closes by an index of a judged model's clauses, which is built first; a state with a fact of F or more is refused.
-fn close_built(model: &[u8], state: &[u8], table: &mut [u16], index: &mut [u16]) -> Crossed
+fn close_built(
+    model: &[u8],
+    state: &[u8],
+    table: &mut [u16],
+    index: &mut [u16],
+) -> Result<Worked, u8>
     requires { (shape_fault model.now ≡ none) × (length model.now ≤ 65536) × (4096 ≤ length table.old)
         × (no_places_lem model.now index.old ≡ false) }
     ensures { Crosses (state_refusal model.now state.now) model.now
         state.now table.old table.new index.old index.new result }
 {
-    if facts::any_from(state, 512, held::facts(model)) {
-        return Crossed::Refused(6);
-    }
+    known_facts(model, state)?;
     let mut ends = [0u16; 4097];
     let mut starts = [0u16; 4096];
     let n = build_index(model, index, &mut ends, &mut starts);
     let worked = close_worked(model, state, table, index, &ends, &starts[..n], NO_FACT);
-    Crossed::Rounds(worked.rounds, worked.crossings)
+    Ok(worked)
 }
 
-// Closing called by itself with an index lent: as without one, with an answer for the crossings; the index then holds
-// each body place's clause number, by fact and then clause.
-pub fn close_indexed(model: &[u8], state: &[u8], table: &mut [u16], index: &mut [u16]) -> Crossed
+// Closing called by itself with an index lent: as without one, and it answers the body places crossed too; the index
+// then holds each body place's clause number, by fact and then clause.
+pub fn close_indexed(
+    model: &[u8],
+    state: &[u8],
+    table: &mut [u16],
+    index: &mut [u16],
+) -> Result<Worked, u8>
     ensures { ClosesIndexed model.now state.now table.old
         table.new index.old index.new result }
 {
     if no_room(state, table) {
-        return Crossed::Refused(1);
+        return Err(1);
     }
     match model::judge_model(model) {
-        Judged::Fault(fault) => Crossed::Refused(fault.number),
+        Judged::Fault(fault) => Err(fault.number),
         Judged::Fine(counts) => {
             if no_places(model, counts.clauses, index) {
-                return Crossed::Refused(1);
+                return Err(1);
             }
             close_built(model, state, table, index)
         }

@@ -6,6 +6,7 @@ use mathlib.Core.Option.{Option, none, some}
 use native.Mathlib.Omega.{arith}
 use borrow.Author.Tests.{lt-ltb, le-ltb}
 use lib.ListN.{length, set}
+use Rattle.std.specs.Prelude.{Result, Ok, Err}
 use Rattle.records.specs.Answers.{code}
 use Rattle.records.specs.declared.Fault.{Fault}
 use Rattle.files.specs.Files.{fact_count, model_of_lem, model_fault}
@@ -14,8 +15,8 @@ use Rattle.files.specs.declared.Counts.{Counts}
 use Rattle.files.specs.declared.Judged.{Judged}
 use Rattle.files.proofs.Answers.{judged-fine, judged-fault}
 use Rattle.closing.specs.Closing as closing
-use Rattle.closing.specs.declared.Closed.{Closed}
-use Rattle.closing.specs.declared.Crossed.{Crossed}
+use Rattle.closing.proofs.Alone.{answer-ok, answer-err}
+use Rattle.closing.specs.declared.Worked.{Worked}
 use Rattle.reaching.specs.Reaching.{Lent}
 use Rattle.checking.specs.Verdict.{verdict_of_lem, Buffers, Checked, CheckedIndexed}
 use Rattle.running.specs.declared.Verdict.{Verdict}
@@ -69,31 +70,19 @@ some-verdict-indexed m t before after ix ix' out out' v room checked written =
 
 -- ---- closing
 
--- rounds are answered where nothing is refused
-rounds-fine : (o : Option ℕ) (k n : ℕ) → Closed.Rounds n ≡ closing.answer o k → (o ≡ none) × (n ≡ k)
-unfolding closing.answer
-rounds-fine none k n e = (refl, cc)
-rounds-fine (some j) k n e = let z : ◌≡◌ {A = ℕ} 0 1 = cc in absurd (omega arith)
-
--- a refusal is answered by its number
-refused-some : (o : Option ℕ) (k n : ℕ) → Closed.Refused n ≡ closing.answer o k → o ≡ some n
-unfolding closing.answer
-refused-some none k n e = let z : ◌≡◌ {A = ℕ} 0 1 = cc in absurd (omega arith)
-refused-some (some j) k n e = cc
-
 module _ (m state table : List ℕ) where
   -- without room for the rounds
   pub no_rounds : (out : List ℕ) → length out < 1 → ClosesOut (shorter out 1) m state table table out out 1
   unfolding shorter ClosesOut
   no_rounds out short = rw (lt-ltb _ _ short) (refl, refl, refl)
 
-  module _ (table' out : List ℕ) (r : Closed) (n : ℕ) (room : 1 ≤ length out)
+  module _ (table' out : List ℕ) (r : Result ℕ ℕ) (n : ℕ) (room : 1 ≤ length out)
       (closed : closing.Closes m state table table' r) where
     -- the rounds are written
-    pub some-rounds : r ≡ Closed.Rounds n → ClosesOut (shorter out 1) m state table table' out (set out 0 n) 0
+    pub some-rounds : r ≡ Ok n → ClosesOut (shorter out 1) m state table table' out (set out 0 n) 0
     unfolding shorter ClosesOut code unless_refused
     some-rounds told =
-        let (fine, same) = rounds-fine _ _ _ (sym told ∙ closed.answers) in
+        let (fine, same) = answer-ok _ _ _ (sym told ∙ closed.answers) in
         rw (le-ltb _ _ room)
         (record {
           number = rw fine;
@@ -102,10 +91,10 @@ module _ (m state table : List ℕ) where
         })
 
     -- a refusal writes nothing
-    pub refused : r ≡ Closed.Refused n → ClosesOut (shorter out 1) m state table table' out out n
+    pub refused : r ≡ Err n → ClosesOut (shorter out 1) m state table table' out out n
     unfolding shorter ClosesOut code unless_refused
     refused told =
-        let number = refused-some _ _ _ (sym told ∙ closed.answers) in
+        let number = answer-err _ _ _ (sym told ∙ closed.answers) in
         rw (le-ltb _ _ room)
         (record {
           number = rw number;
@@ -115,19 +104,6 @@ module _ (m state table : List ℕ) where
 
 -- ---- closing with an index lent
 
--- rounds and crossings are answered where nothing is refused
-crossed-fine : (o : Option ℕ) (k l n c : ℕ) → Crossed.Rounds n c ≡ closing.answer_indexed o k l
-    → (o ≡ none) × (n ≡ k) × (c ≡ l)
-unfolding closing.answer_indexed
-crossed-fine none k l n c e = (refl, cc, cc)
-crossed-fine (some j) k l n c e = let z : ◌≡◌ {A = ℕ} 0 1 = cc in absurd (omega arith)
-
--- a refusal is answered by its number
-crossed-some : (o : Option ℕ) (k l n : ℕ) → Crossed.Refused n ≡ closing.answer_indexed o k l → o ≡ some n
-unfolding closing.answer_indexed
-crossed-some none k l n e = let z : ◌≡◌ {A = ℕ} 0 1 = cc in absurd (omega arith)
-crossed-some (some j) k l n e = cc
-
 module _ (m state table ix : List ℕ) where
   -- without room for them
   pub no_crossings : (out : List ℕ) → length out < 2
@@ -135,28 +111,30 @@ module _ (m state table ix : List ℕ) where
   unfolding shorter ClosesIndexedOut
   no_crossings out short = rw (lt-ltb _ _ short) (refl, refl, refl, refl)
 
-  module _ (table' ix' out : List ℕ) (r : Crossed) (n : ℕ) (room : 2 ≤ length out)
+  module _ (table' ix' out : List ℕ) (r : Result Worked ℕ) (room : 2 ≤ length out)
       (closed : closing.ClosesIndexed m state table table' ix ix' r) where
     -- they are written
-    pub some-crossings : (c : ℕ) → r ≡ Crossed.Rounds n c
-        → ClosesIndexedOut (shorter out 2) m state table table' ix ix' out (set (set out 0 n) 1 c) 0
+    pub some-crossings : (w : Worked) → r ≡ Ok w
+        → ClosesIndexedOut (shorter out 2) m state table table' ix ix' out (set (set out 0 w.rounds) 1 w.crossings) 0
     unfolding shorter ClosesIndexedOut code unless_refused
-    some-crossings c told =
-        let (fine, rounds, crossings) = crossed-fine _ _ _ _ _ (sym told ∙ closed.answers) in
+    some-crossings w told =
+        let (fine, same) = answer-ok _ _ _ (sym told ∙ closed.answers) in
         rw (le-ltb _ _ room)
         (record {
           number = rw fine;
-          rounds = rw (fine, ← rounds, ← crossings) (stored (n ∷ c ∷ []) out room);
+          rounds = rw fine
+              (stored (w.rounds ∷ w.crossings ∷ []) out room
+              ∙ ap (λ (v : Worked). over (v.rounds ∷ v.crossings ∷ []) out) same);
           entries = closed.table;
           index = closed.index;
         })
 
     -- a refusal writes nothing
-    pub crossings-refused : r ≡ Crossed.Refused n
+    pub crossings-refused : (n : ℕ) → r ≡ Err n
         → ClosesIndexedOut (shorter out 2) m state table table' ix ix' out out n
     unfolding shorter ClosesIndexedOut code unless_refused
-    crossings-refused told =
-        let number = crossed-some _ _ _ _ (sym told ∙ closed.answers) in
+    crossings-refused n told =
+        let number = answer-err _ _ _ (sym told ∙ closed.answers) in
         rw (le-ltb _ _ room)
         (record { number = rw number; rounds = rw number; entries = closed.table; index = closed.index })
 

@@ -9,7 +9,6 @@ ghost use Rattle.exports.specs.Exports.{RulesOut, HoldsOut, CountsOut, PartOut};
 ghost use Rattle.exports.specs.Exports.{shorter, values, over};
 ghost use Rattle.files.specs.Answers.{part_of};
 
-use closing::{Closed, Crossed};
 use files::{Counts, Judged, Part, both, held, model};
 use firing::Fired;
 use holding::Answer;
@@ -100,11 +99,11 @@ pub extern "C" fn cantivorex_close(
         return 1;
     }
     match closing::close(model, state, table) {
-        Closed::Rounds(n) => {
-            out[0] = n as u64;
+        Ok(rounds) => {
+            out[0] = rounds as u64;
             0
         }
-        Closed::Refused(number) => number,
+        Err(number) => number,
     }
 }
 
@@ -126,12 +125,12 @@ pub extern "C" fn cantivorex_close_indexed(
         return 1;
     }
     match closing::close_indexed(model, state, table, index) {
-        Crossed::Rounds(n, crossings) => {
-            out[0] = n as u64;
-            out[1] = crossings as u64;
+        Ok(worked) => {
+            out[0] = worked.rounds as u64;
+            out[1] = worked.crossings as u64;
             0
         }
-        Crossed::Refused(number) => number,
+        Err(number) => number,
     }
 }
 

@@ -7,12 +7,12 @@ pub returns-then-out-lt1 : goal.returns-then-out-lt1
 returns-then-out-lt1 c =
     no_rounds c.args.model.now c.args.state.now c.args.table.now c.args.out.now (omega arith)
 
-pub returns-in-Rounds : goal.returns-in-Rounds
-returns-in-Rounds c =
+pub returns-in-Ok : goal.returns-in-Ok
+returns-in-Ok c =
     some-rounds c.args.model.now c.args.state.now c.args.table.now _ c.args.out.now _ _ (omega arith)
-    c.close.ensures c.in-Rounds.is
+    c.close.ensures c.in-Ok.is
 
-pub returns-in-Refused : goal.returns-in-Refused
-returns-in-Refused c =
+pub returns-in-Err : goal.returns-in-Err
+returns-in-Err c =
     refused c.args.model.now c.args.state.now c.args.table.now _ c.args.out.now _ _ (omega arith)
-    c.close.ensures c.in-Refused.is
+    c.close.ensures c.in-Err.is

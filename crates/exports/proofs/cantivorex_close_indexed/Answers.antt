@@ -7,12 +7,12 @@ pub returns-then-out-lt2 : goal.returns-then-out-lt2
 returns-then-out-lt2 c =
     no_crossings c.args.model.now c.args.state.now c.args.table.now c.args.index.now c.args.out.now (omega arith)
 
-pub returns-in-Rounds : goal.returns-in-Rounds
-returns-in-Rounds c =
-    some-crossings c.args.model.now c.args.state.now c.args.table.now c.args.index.now _ _ c.args.out.now _ _
-    (omega arith) c.close_indexed.ensures _ c.in-Rounds.is
+pub returns-in-Ok : goal.returns-in-Ok
+returns-in-Ok c =
+    some-crossings c.args.model.now c.args.state.now c.args.table.now c.args.index.now _ _ c.args.out.now _
+    (omega arith) c.close_indexed.ensures _ c.in-Ok.is
 
-pub returns-in-Refused : goal.returns-in-Refused
-returns-in-Refused c =
-    crossings-refused c.args.model.now c.args.state.now c.args.table.now c.args.index.now _ _ c.args.out.now _ _
-    (omega arith) c.close_indexed.ensures c.in-Refused.is
+pub returns-in-Err : goal.returns-in-Err
+returns-in-Err c =
+    crossings-refused c.args.model.now c.args.state.now c.args.table.now c.args.index.now _ _ c.args.out.now _
+    (omega arith) c.close_indexed.ensures _ c.in-Err.is

@@ -122,6 +122,7 @@ fn print_some(rt: &impl Print, word: &str, n: usize) -> io::Result<()> {
     }
 }
 
+// The verdict's line.
 fn print_line(rt: &impl Print, v: Verdict) -> io::Result<()> {
     rt.print(name_of(v.number))?;
     print_value(rt, " step ", v.step)?;

@@ -22,7 +22,7 @@ unfoldable pub shorter : List ℕ → ℕ → Bool
 shorter out n = ltb (length out) n
 
 -- a list with others at its front, as far as it has room; what lies beyond stays
-unfoldable pub over : List ℕ → List ℕ → List ℕ
+unfoldable pub over : {A : Type 0} → List A → List A → List A
 over values out = take (length out) values ++ drop (length values) out
 
 -- a verdict's values, in the order in which they are written

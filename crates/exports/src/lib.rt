@@ -3,7 +3,7 @@
 
 #![tactic(auto)]
 
-ghost use Rattle.std.specs.Prelude.{◌≤◌, ◌≡◌, [], ◌∷◌, length};
+ghost use Rattle.std.specs.Prelude.{◌≡◌, [], ◌∷◌, length};
 ghost use Rattle.exports.specs.Exports.{ChecksOut, ChecksIndexedOut, ClosesOut, ClosesIndexedOut};
 ghost use Rattle.exports.specs.Exports.{RulesOut, HoldsOut, CountsOut, PartOut};
 ghost use Rattle.exports.specs.Exports.{shorter, values, over};
@@ -17,22 +17,32 @@ use running::Verdict;
 // How many values a verdict has.
 const VALUES: usize = 10;
 
+// Copies items to the front, as far as there is room.
+fn put<T: Copy>(items: &[T], out: &mut [T])
+    ensures { out.new ≡ over items.now out.old }
+{
+    let n = items.len().min(out.len());
+    out[..n].copy_from_slice(&items[..n]);
+}
+
 // Writes a verdict's ten values to the front.
-fn put(v: Verdict, out: &mut [u64])
-    requires { 10 ≤ length out.old }
+fn put_verdict(v: Verdict, out: &mut [u64])
     ensures { out.new ≡ over (values v) out.old }
 {
-    out[0] = v.number as u64;
-    out[1] = v.step as u64;
-    out[2] = v.fact as u64;
-    out[3] = v.rounds as u64;
-    out[4] = v.held as u64;
-    out[5] = v.kind as u64;
-    out[6] = v.round as u64;
     let part = v.part;
-    out[7] = part.mark as u64;
-    out[8] = part.start as u64;
-    out[9] = part.size as u64;
+    let row = [
+        v.number as u64,
+        v.step as u64,
+        v.fact as u64,
+        v.rounds as u64,
+        v.held as u64,
+        v.kind as u64,
+        v.round as u64,
+        part.mark as u64,
+        part.start as u64,
+        part.size as u64,
+    ];
+    put(&row, out);
 }
 
 // The verdict on a model and a trace: its number, and its ten values at the front of `out`. Without room for them the
@@ -55,7 +65,7 @@ pub extern "C" fn cantivorex_check(
         return 1;
     }
     let v = checking::check(model, trace, state, table, names);
-    put(v, out);
+    put_verdict(v, out);
     v.number
 }
 
@@ -79,7 +89,7 @@ pub extern "C" fn cantivorex_check_indexed(
         return 1;
     }
     let v = checking::check_indexed(model, trace, state, table, names, index);
-    put(v, out);
+    put_verdict(v, out);
     v.number
 }
 
@@ -199,14 +209,16 @@ pub extern "C" fn cantivorex_holds(
 
 // Writes F and a model's counts to the front.
 fn put_figures(facts: usize, n: Counts, out: &mut [u64])
-    requires { 4 ≤ length out.old }
     ensures { out.new
         ≡ over (facts ∷ n.clauses ∷ n.rules ∷ n.goals ∷ []) out.old }
 {
-    out[0] = facts as u64;
-    out[1] = n.clauses as u64;
-    out[2] = n.rules as u64;
-    out[3] = n.goals as u64;
+    let row = [
+        facts as u64,
+        n.clauses as u64,
+        n.rules as u64,
+        n.goals as u64,
+    ];
+    put(&row, out);
 }
 
 // What a model has: 0, with its facts, clauses, rules and goals in the first four entries of `out`, or a
@@ -235,10 +247,12 @@ fn copy(bytes: &[u8], out: &mut [u8]) -> usize
     ensures count { result ≡ length bytes.now }
     ensures front { out.new ≡ over bytes.now out.old }
 {
-    let mut i = 0;
-    while i < bytes.len() && i < out.len() {
-        out[i] = bytes[i];
-        i += 1;
+    // Not by `put`, tried: that is C's memcpy, whose first call takes 3 KiB of stack, and 44 bytes are allowed.
+    for (i, byte) in bytes.iter().enumerate() {
+        if i == out.len() {
+            break;
+        }
+        out[i] = *byte;
     }
     bytes.len()
 }

@@ -3,4 +3,5 @@ pub mod Laws
 pub mod Cuts
 pub mod Rows
 pub mod Sorted
+mod Halves
 pub mod Clauses

@@ -1,5 +1,5 @@
 -- Laws on strictly ascending numbers, and on looking one up by halves.
-use Prim.Native.Nat.{ℕ, zero, suc, ◌+◌, ◌≤◌, ◌<◌}
+use Prim.Native.Nat.{ℕ, zero, suc, ◌≤◌, ◌<◌}
 use mathlib.Core.Path.{◌≡◌, refl, sym, subst}
 use mathlib.Core.Bool.{true, false}
 use mathlib.Core.Logic.{⊎_elim, ∥∥₁_elim}
@@ -60,13 +60,6 @@ pub record Between (xs : List ℕ) (n low high : ℕ) : Type 0 where
   pub larger : (i : ℕ) → high ≤ i → i < length xs → n < get_or xs i 0
 
 module _ (xs : List ℕ) (n : ℕ) where
-  pub between_start : Between xs n 0 (length xs)
-  between_start = record {
-    ends = omega arith;
-    smaller = λ i h. absurd (not-suc-le-zero h);
-    larger = λ i h l. absurd (omega arith);
-  }
-
   -- It is there where a number equals it,
   pub found : (i : ℕ) → i < length xs → get_or xs i 0 ≡ n → listed xs n ≡ true
   found i h e = is_true ((listed-is xs n).1 (subst (λ x. x ∈ xs) e (get_or_in xs i 0 h)))
@@ -77,22 +70,3 @@ module _ (xs : List ℕ) (n : ℕ) where
       let (i, h, e) = index_in xs n ((listed-is xs n).0 t) in
       ⊎_elim (λ l. omega (arith, b.smaller i l)) (λ l. omega (arith, b.larger i (omega arith) h))
       (below_or_from i low))
-
-  module _ (sorted : ascending xs ≡ true) {low high : ℕ} (b : Between xs n low high) (i : ℕ) (h : i < length xs) where
-    -- Where number i is smaller, it can stand only after it;
-    pub after : get_or xs i 0 < n → Between xs n (i + 1) high
-    after less = record {
-      ends = b.ends;
-      smaller = λ j l. ⊎_elim (λ k. omega (arith, ascending-at xs sorted j i k h))
-          (λ k. let same : j ≡ i = omega arith in rw same less) (below_or_from j i);
-      larger = b.larger;
-    }
-
-    -- where it is larger, only before it.
-    pub before : n < get_or xs i 0 → Between xs n low i
-    before more = record {
-      ends = omega arith;
-      smaller = b.smaller;
-      larger = λ j l k. ⊎_elim (λ q. omega (arith, ascending-at xs sorted i j q k))
-          (λ q. let same : j ≡ i = omega arith in rw same more) (below_or_from i j);
-    }

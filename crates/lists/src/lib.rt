@@ -15,21 +15,10 @@ pub fn has(numbers: &[u8], n: usize) -> bool
     requires { ascending (words numbers.now) ≡ true }
     ensures { result ≡ listed (words numbers.now) n }
 {
-    let mut low = 0;
-    let mut high = numbers.len() / 2;
-    while low < high {
-        let middle = low + (high - low) / 2;
-        let found = records::word_at(numbers, 2 * middle);
-        if found == n {
-            return true;
-        }
-        if found < n {
-            low = middle + 1;
-        } else {
-            high = middle;
-        }
-    }
-    false
+    let (pairs, _) = numbers.as_chunks::<2>();
+    pairs
+        .binary_search_by_key(&n, |pair| records::word_at(pair, 0))
+        .is_ok()
 }
 
 // The bytes of list j of a rule or an attack state. The caller has judged the record.
@@ -38,10 +27,8 @@ pub fn list_of(whole: &[u8], kind: Kind, j: usize) -> &[u8]
     ensures { ListBytes kind whole.now j result.now }
 {
     let mut at = 2;
-    let mut left = j;
-    while 0 < left {
+    for _ in 0..j {
         at += 2 + records::word_at(whole, at) * 2;
-        left -= 1;
     }
     let start = at + 2;
     let end = start + records::word_at(whole, at) * 2;

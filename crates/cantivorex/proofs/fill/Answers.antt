@@ -1,5 +1,5 @@
 -- A read puts its bytes behind those that are there, and the reader loses them.
-use Rattle.std.proofs.Common.{rules, arith, ◌≡◌, ◌+◌, ◌-◌, ◌≤◌, ℕ, List, ◌++◌, length, take, slice_range, sym, ap, ◌∙◌, subst, le_refl, drop_at, length-take-le}
+use Rattle.std.proofs.Common.{rules, ◌≡◌, ◌+◌, ◌-◌, ◌≤◌, ℕ, List, ◌++◌, length, take, drop, sym, ap, ◌∙◌, subst, le_refl, drop_at, length-take-le}
 use Rattle.std.proofs.lemmas.Slice.{take-put_mid_below}
 use Rattle.std.proofs.KnownBytes.{Consumes-trans}
 use Rattle.std.specs.Io.KnownBytes.{Consumes}
@@ -7,32 +7,24 @@ use borrow.Rule.Slice.PartMut.{put_mid, post_of}
 use lib.Seq.{take-add, take-append-le}
 use Rattle.cantivorex.proofs.fill.Goals as goal
 
-take_split : (a b : ℕ) (old new : List ℕ) → a ≤ b → take a new ≡ take a old
-    → take a old ++ slice_range new a b ≡ take b new
-take_split a b old new h front =
-    let same : a + (b - a) ≡ b = omega arith in
-    ap (λ l. l ++ slice_range new a b) (sym front) ∙ sym (take-add a (b - a) new) ∙ ap (λ n. take n new) same
-
-slice_range-put_mid : (a k n : ℕ) (xs ys : List ℕ) → a ≤ length xs → n ≤ length ys
-    → slice_range (put_mid a k xs ys) a (a + n) ≡ take n ys
-slice_range-put_mid a k n xs ys within fits =
-    let same : (a + n) - a ≡ n = omega arith in
-    let after = post_of a k xs in
-    ap (take ((a + n) - a)) (drop_at (take a xs) (ys ++ after) a (length-take-le a xs within))
-    ∙ ap (λ m. take m (ys ++ after)) same ∙ take-append-le n ys after fits
+-- after a write from a on: what stood before it, and the first n that were written
+take-put_mid_front : (a k n : ℕ) (xs ys : List ℕ) → a ≤ length xs → n ≤ length ys
+    → take (a + n) (put_mid a k xs ys) ≡ take a xs ++ take n ys
+take-put_mid_front a k n xs ys within fits =
+    let new = put_mid a k xs ys in
+    take-add a n new
+    ∙ ap (λ l. l ++ take n (drop a new)) (take-put_mid_below a k xs ys a (le_refl a) within)
+    ∙ ap (λ l. take a xs ++ take n l) (drop_at (take a xs) (ys ++ post_of a k xs) a (length-take-le a xs within))
+    ∙ ap (λ l. take a xs ++ l) (take-append-le n ys (post_of a k xs) fits)
 
 pub loop-at-preserved : goal.loop-at-preserved
 loop-at-preserved g c =
     let from = c.loop-at.at in
-    let room = length c.loop-at.buffer - from in
-    let within = c.loop-at.invariant.1 in
-    let new = put_mid from room c.loop-at.buffer c.read.new.buf in
-    let part = slice_range-put_mid from room c.in_ok-n.n c.loop-at.buffer c.read.new.buf within c.in_ok-n.ensures.bound.0 in
+    let read = c.in_ok-n.ensures in
     let joined =
-    take_split from (from + c.in_ok-n.n) c.loop-at.buffer new (omega arith)
-    (take-put_mid_below _ _ _ _ _ (le_refl _) within) in (
+    take-put_mid_front from (length c.loop-at.buffer - from) c.in_ok-n.n c.loop-at.buffer c.read.new.buf
+    c.loop-at.invariant.1 read.bound.0 in (
       search rules,
       search rules,
-      subst (Consumes _ _) (ap (λ l. take from c.loop-at.buffer ++ l) (sym part) ∙ joined)
-          (Consumes-trans _ _ _ _ _ c.loop-at.invariant.2 c.in_ok-n.ensures.bytes.0),
+      subst (Consumes _ _) (sym joined) (Consumes-trans _ _ _ _ _ c.loop-at.invariant.2 read.bytes.0),
     )

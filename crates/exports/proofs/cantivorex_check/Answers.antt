@@ -10,4 +10,4 @@ returns-then-out-lt-VALUES c =
 pub returns : goal.returns
 returns c =
     some-verdict c.args.model.now c.args.trace.now _ _ c.args.out.now _ _ (omega arith) c.check-v.ensures
-    c.put.ensures
+    c.put_verdict.ensures

@@ -1,8 +1,6 @@
--- `put` meets its contract: ten stores, one after the other.
-use Rattle.exports.specs.Exports.{values}
-use Rattle.exports.proofs.Fronts.{stored}
+-- `put` meets its contract: the front is as many items as there are and as there is room for.
+use Rattle.exports.proofs.Fronts.{over_min}
 use Rattle.exports.proofs.put.Goals as goal
 
 pub returns : goal.returns
-unfolding values
-returns c = stored (values c.args.v) c.args.out.now c.requires
+returns g c = rw c.copy_from_slice.ensures.after (over_min c.args.items.now c.args.out.now _ c.min-n.ensures)

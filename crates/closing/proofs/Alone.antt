@@ -19,7 +19,7 @@ use Rattle.facts.specs.Facts.{members, AnyFrom}
 use Rattle.facts.proofs.Laws.{beyond}
 use Rattle.records.specs.Records.{given, ◌or_else◌}
 use Rattle.records.proofs.Judging.{or_clear}
-use Rattle.records.specs.declared.Fault.{Fault}
+use Rattle.records.specs.Refusals.{Fault}
 use Rattle.records.specs.Refusals.{answer_or}
 use Rattle.files.specs.Files.{fact_count, model_of_lem, shape_fault, model_fault}
 use Rattle.files.proofs.Traces.{fine-shape}

@@ -19,7 +19,7 @@ use Rattle.meaning.proofs.Theorems.{worked-crossings, crossings-bound, steps_are
 use Rattle.facts.specs.Facts.{members}
 use Rattle.facts.proofs.Laws.{beyond}
 use Rattle.records.specs.Records.{given, ◌or_else◌}
-use Rattle.records.specs.declared.Fault.{Fault}
+use Rattle.records.specs.Refusals.{Fault}
 use Rattle.records.specs.Refusals.{answer_or}
 use Rattle.files.specs.Files.{model_of_lem, shape_fault, model_fault}
 use Rattle.files.proofs.Traces.{fine-shape}

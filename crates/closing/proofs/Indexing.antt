@@ -10,7 +10,7 @@ use Rattle.std.specs.Prelude.{Result, Ok, Err}
 use lib.Seq.{get_or-take, length-take-le}
 use Rattle.facts.specs.Facts.{members}
 use Rattle.records.specs.Records.{given, ◌or_else◌}
-use Rattle.records.specs.declared.Fault.{Fault}
+use Rattle.records.specs.Refusals.{Fault}
 use Rattle.sections.specs.declared.Role.TheVariants.{Clauses}
 use Rattle.files.specs.Files.{fact_count, section_of, clauses_in, model_of_lem, shape_fault, model_fault}
 use Rattle.files.proofs.Laws.{facts-bound, clauses-bound, clause-below}

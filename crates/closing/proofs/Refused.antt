@@ -16,7 +16,7 @@ use Rattle.sets.proofs.Laws.{is_true, passes, fails, both, by-test, below_or_fro
 use Rattle.facts.specs.Facts.{members}
 use Rattle.facts.proofs.Laws.{beyond}
 use Rattle.records.specs.Records.{given, ◌or_else◌}
-use Rattle.records.specs.declared.Fault.{Fault}
+use Rattle.records.specs.Refusals.{Fault}
 use Rattle.records.specs.Refusals.{answer_or}
 use Rattle.files.specs.Files.{fact_count, model_fault, model_of_lem}
 use Rattle.causes.proofs.Causes.{alone-cause}

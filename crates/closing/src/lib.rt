@@ -9,7 +9,7 @@ ghost use Rattle.std.proofs.Math.Option.{none};
 ghost use Rattle.sets.specs.Sets.{every};
 ghost use Rattle.facts.specs.Facts.{members};
 ghost use Rattle.records.specs.Words.{word, words};
-ghost use Rattle.records.specs.Refusals.{answer_or};
+ghost use Rattle.records.specs.Refusals.{refused_by, numbered};
 ghost use Rattle.lists.specs.Lists.{AllCut};
 ghost use Rattle.records.specs.declared.Kind.{Kind};
 ghost use Rattle.sections.specs.declared.Role.{Role};
@@ -20,7 +20,8 @@ ghost use Rattle.closing.specs.Closing.{Written, Bounded, Way, ClosesUnder, Clos
 ghost use Rattle.closing.specs.Closing.{no_room_lem, state_refusal, no_places_lem, Builds, Crosses, ClosesIndexed};
 ghost use Rattle.closing.specs.Sweep.{Eight, stored, Body, up_to, swept, adds};
 
-use files::{Judged, held, model};
+use files::{held, model};
+use records::Refusal;
 use sections::Role;
 use worklist::Index;
 pub use worklist::Worked;
@@ -199,21 +200,21 @@ pub fn close_judged(
 }
 
 // Refuses a state with a fact of F or more.
-fn known_facts(model: &[u8], state: &[u8]) -> Result<(), u8>
+fn known_facts(model: &[u8], state: &[u8]) -> Result<(), Refusal>
     requires { shape_fault model.now ≡ none }
-    ensures { result ≡ answer_or (state_refusal model.now state.now) tt }
+    ensures { refused_by result ≡ state_refusal model.now state.now }
 {
     if facts::any_from(state, 512, held::facts(model)) {
-        return Err(6);
+        return Err(Refusal::Fact);
     }
     Ok(())
 }
 
 // Closes under a judged model's clauses; a state with a fact of F or more is refused.
-fn close_known(model: &[u8], state: &[u8], table: &mut [u16]) -> Result<usize, u8>
+fn close_known(model: &[u8], state: &[u8], table: &mut [u16]) -> Result<usize, Refusal>
     requires { (shape_fault model.now ≡ none) × (4096 ≤ length table.old) }
     ensures { ClosesKnown model.now state.now table.old
-        table.new result }
+        table.new (numbered result) }
 {
     known_facts(model, state)?;
     Ok(close_swept(model, state, table))
@@ -227,17 +228,15 @@ pub fn no_room(state: &[u8], table: &[u16]) -> bool
 }
 
 // Closing called by itself: judges what it is lent, fills the round table and answers the number of rounds, or refuses
-// with a number and changes nothing.
-pub fn close(model: &[u8], state: &[u8], table: &mut [u16]) -> Result<usize, u8>
-    ensures { Closes model.now state.now table.old table.new result }
+// and changes nothing.
+pub fn close(model: &[u8], state: &[u8], table: &mut [u16]) -> Result<usize, Refusal>
+    ensures { Closes model.now state.now table.old table.new (numbered result) }
 {
     if no_room(state, table) {
-        return Err(1);
+        return Err(Refusal::Room);
     }
-    match model::judge_model(model) {
-        Judged::Fault(fault) => Err(fault.number),
-        Judged::Fine(_) => close_known(model, state, table),
-    }
+    model::judge_model(model)?;
+    close_known(model, state, table)
 }
 
 // Whether an index has fewer entries than a judged model of so many clauses has body places.
@@ -272,11 +271,11 @@ fn close_built(
     state: &[u8],
     table: &mut [u16],
     index: &mut [u16],
-) -> Result<Worked, u8>
+) -> Result<Worked, Refusal>
     requires { (shape_fault model.now ≡ none) × (length model.now ≤ 65536) × (4096 ≤ length table.old)
         × (no_places_lem model.now index.old ≡ false) }
     ensures { Crosses (state_refusal model.now state.now) model.now
-        state.now table.old table.new index.old index.new result }
+        state.now table.old table.new index.old index.new (numbered result) }
 {
     known_facts(model, state)?;
     let mut ends = [0u16; 4097];
@@ -293,20 +292,16 @@ pub fn close_indexed(
     state: &[u8],
     table: &mut [u16],
     index: &mut [u16],
-) -> Result<Worked, u8>
+) -> Result<Worked, Refusal>
     ensures { ClosesIndexed model.now state.now table.old
-        table.new index.old index.new result }
+        table.new index.old index.new (numbered result) }
 {
     if no_room(state, table) {
-        return Err(1);
+        return Err(Refusal::Room);
     }
-    match model::judge_model(model) {
-        Judged::Fault(fault) => Err(fault.number),
-        Judged::Fine(counts) => {
-            if no_places(model, counts.clauses, index) {
-                return Err(1);
-            }
-            close_built(model, state, table, index)
-        }
+    let counts = model::judge_model(model)?;
+    if no_places(model, counts.clauses, index) {
+        return Err(Refusal::Room);
     }
+    close_built(model, state, table, index)
 }

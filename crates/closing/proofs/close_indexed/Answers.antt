@@ -2,7 +2,8 @@
 use Rattle.std.proofs.Common.{sym, ap, ◌∙◌}
 use Rattle.files.specs.Answers.{counts_of}
 use Rattle.files.specs.declared.Counts.{Counts}
-use Rattle.files.proofs.Answers.{judged-fine, judged-fault}
+use Rattle.std.proofs.lemmas.Result.{err_from_is_err_and}
+use Rattle.records.proofs.Laws.{told_ok, told_err}
 use Rattle.files.proofs.Traces.{fine-shape, fine-size}
 use Rattle.closing.proofs.Alone.{table-room}
 use Rattle.closing.proofs.Indexing.{crosses_refused, crosses_as, indexed_no_room, indexed-fault}
@@ -16,33 +17,34 @@ returns-then-no_room c =
 pub no_places-requires : goal.no_places-requires
 unfolding counts_of
 no_places-requires c =
-    let fine = judged-fine _ _ _ c.judge_model.ensures c.in-Fine.is in
-    (fine-shape _ fine.0, sym (ap (λ (n : Counts). n.clauses) fine.1))
+    let fine = told_ok _ _ _ c.in_ok-counts.ensures in
+    (fine-shape _ fine.0, ap (λ (n : Counts). n.clauses) fine.1)
 
 pub returns-then-no_places : goal.returns-then-no_places
 returns-then-no_places c =
     crosses_refused _ _ _ _ _ 1
     (indexed_no_places _ _ _ _ (sym c.no_room.ensures ∙ c.if-no_room.false)
-    (judged-fine _ _ _ c.judge_model.ensures c.in-Fine.is).0 (sym c.no_places.ensures ∙ c.if-no_places.true))
+    (told_ok _ _ _ c.in_ok-counts.ensures).0 (sym c.no_places.ensures ∙ c.if-no_places.true))
 
 pub close_built-requires : goal.close_built-requires
 close_built-requires c =
-    let fine = (judged-fine _ _ _ c.judge_model.ensures c.in-Fine.is).0 in (
+    let fine = (told_ok _ _ _ c.in_ok-counts.ensures).0 in (
       fine-shape _ fine,
       fine-size _ fine,
       table-room _ _ (sym c.no_room.ensures ∙ c.if-no_room.false),
       sym c.no_places.ensures ∙ c.if-no_places.false,
     )
 
-pub returns-in-Fault : goal.returns-in-Fault
-returns-in-Fault c =
-    crosses_refused _ _ _ _ _ _
-    (indexed-fault _ _ _ _ (sym c.no_room.ensures ∙ c.if-no_room.false) _
-    (judged-fault _ _ _ c.judge_model.ensures c.in-Fault.is))
+pub returns-in_err-counts : goal.returns-in_err-counts
+returns-in_err-counts c =
+    let p = err_from_is_err_and c.from_residual.result c.from_residual.ensures.1 in
+    rw (p.1, p.2)
+    (crosses_refused _ _ _ _ _ _
+    (indexed-fault _ _ _ _ (sym c.no_room.ensures ∙ c.if-no_room.false) _ (told_err _ _ _ c.in_err-counts.ensures)))
 
-pub returns-else-no_places : goal.returns-else-no_places
-returns-else-no_places c =
+pub returns : goal.returns
+returns c =
     crosses_as
     (indexed-fine _ _ _ _ (sym c.no_room.ensures ∙ c.if-no_room.false)
-    (judged-fine _ _ _ c.judge_model.ensures c.in-Fine.is).0 (sym c.no_places.ensures ∙ c.if-no_places.false))
+    (told_ok _ _ _ c.in_ok-counts.ensures).0 (sym c.no_places.ensures ∙ c.if-no_places.false))
     c.close_built.ensures

@@ -1,14 +1,11 @@
 -- `conditions::meets`: a known fact is in the closure where its entry is a number.
-use Rattle.std.proofs.Common.{◌≡◌, ◌<◌, refl, sym, Bool, true, false, not}
+use Rattle.std.proofs.Common.{◌<◌, sym}
+use Rattle.std.proofs.Math.Bool.{not-not}
 use borrow.Author.Tests.{lt-ltb}
 use Rattle.meaning.specs.Run.{met}
 use Rattle.closing.specs.Closing.{numbered}
 use Rattle.stepping.specs.Conditions.{condition_of, KnownIn}
 use Rattle.stepping.proofs.conditions.meets.Goals as goal
-
-not-not : (b : Bool) → not (not b) ≡ b
-not-not true = refl
-not-not false = refl
 
 pub returns-in-Positive : goal.returns-in-Positive
 unfolding met numbered condition_of KnownIn

@@ -16,7 +16,7 @@ use files::held;
 use records::Numbers;
 use sections::Role;
 use stepping::conditions;
-use stepping::conditions::Condition;
+use stepping::conditions::{Condition, Lists};
 
 // Where the steps led: how many fired, the rounds counted, and the condition that blocks the next step.
 #[derive(Clone, Copy)]
@@ -67,11 +67,13 @@ fn search(
     'search: for k in Numbers(&entries[2..]) {
         rounds += closing::close_judged(model, state, table, index, ends, starts);
         let rule = held::record(model, Role::Rules, k);
-        let p = held::rule_list(model, rule, 0);
-        let n = held::rule_list(model, rule, 1);
-        let made = held::made(model, rule);
-        for i in 0..conditions::count(p, n, made) {
-            let c = conditions::nth(p, n, made, i);
+        let lists = Lists {
+            p: held::rule_list(model, rule, 0),
+            n: held::rule_list(model, rule, 1),
+            names: held::made(model, rule),
+        };
+        for i in 0..lists.count() {
+            let c = lists.nth(i);
             if !conditions::meets(table, names, c) {
                 stop = Some(c);
                 break 'search;
@@ -79,7 +81,7 @@ fn search(
         }
         past::advance(codes, table, kept);
         let a = held::rule_list(model, rule, 2);
-        stepping::apply(p, a, persistent, made, state, names);
+        stepping::apply(lists.p, a, persistent, lists.names, state, names);
         fired += 1;
     }
     Steps {

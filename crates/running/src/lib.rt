@@ -19,7 +19,7 @@ use reaching::Steps;
 use records::Kind;
 use sections::Role;
 use stepping::conditions;
-use stepping::conditions::Condition;
+use stepping::conditions::{Condition, Lists};
 
 // Document 01's verdict: its number and the values that the line shows, and the part at fault. An unmet condition has a
 // kind, 1 positive or 2 negative, and a negative one the round in which its fact arose; 0 and 65,535 stand for none.
@@ -61,9 +61,12 @@ fn ask_state(model: &[u8], trace: &[u8], table: &[u16], names: &[u8]) -> Ending
         (numbered table.now) (names_in names.now) [] }
 {
     let goal = held::record(model, Role::Goals, reaching::goal_of(trace));
-    let p = lists::list_of(goal, Kind::Goal, 0);
-    let n = lists::list_of(goal, Kind::Goal, 1);
-    match conditions::first_unmet(p, n, &goal[..0], table, names) {
+    let asked = Lists {
+        p: lists::list_of(goal, Kind::Goal, 0),
+        n: lists::list_of(goal, Kind::Goal, 1),
+        names: &goal[..0],
+    };
+    match asked.first_unmet(table, names) {
         Some(c) => Ending::NotMet(c),
         None => Ending::Attack,
     }

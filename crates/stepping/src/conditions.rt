@@ -21,28 +21,50 @@ pub enum Condition {
     Unused(usize),
 }
 
-// How many conditions the lists are: two of facts and one of names.
-pub fn count(p: &[u8], n: &[u8], names: &[u8]) -> usize
-    ensures { result ≡ length p.now / 2 + length n.now / 2 + length names.now / 2 }
-{
-    p.len() / 2 + n.len() / 2 + names.len() / 2
+// The conditions of a rule or an attack state: the lists P and N, and the names that it makes.
+#[derive(Clone, Copy)]
+pub struct Lists<'a> {
+    pub p: &'a [u8],
+    pub n: &'a [u8],
+    pub names: &'a [u8],
 }
 
-// Condition i of the lists: P in its order, then N in its order, then the names.
-pub fn nth(p: &[u8], n: &[u8], names: &[u8], i: usize) -> Condition
-    requires { i < length p.now / 2 + length n.now / 2 + length names.now / 2 }
-    ensures { condition_of result
-        ≡ get_or (conditions (words p.now) (words n.now) (words names.now)) i
-        (positive 0) }
-{
-    let negative = p.len() / 2;
-    let unused = negative + n.len() / 2;
-    if i < negative {
-        Condition::Positive(records::word_at(p, 2 * i))
-    } else if i < unused {
-        Condition::Negative(records::word_at(n, 2 * (i - negative)))
-    } else {
-        Condition::Unused(records::word_at(names, 2 * (i - unused)))
+impl<'a> Lists<'a> {
+    // How many conditions they are.
+    pub fn count(&self) -> usize
+        ensures { result ≡ length self.now.p.now / 2 + length self.now.n.now / 2 + length self.now.names.now / 2 }
+    {
+        self.p.len() / 2 + self.n.len() / 2 + self.names.len() / 2
+    }
+
+    // Condition i of them: P in its order, then N in its order, then the names.
+    pub fn nth(&self, i: usize) -> Condition
+        requires { i < length self.now.p.now / 2 + length self.now.n.now / 2 + length self.now.names.now / 2 }
+        ensures { condition_of result
+            ≡ get_or (conditions (words self.now.p.now) (words self.now.n.now) (words self.now.names.now)) i
+            (positive 0) }
+    {
+        let negative = self.p.len() / 2;
+        let unused = negative + self.n.len() / 2;
+        if i < negative {
+            Condition::Positive(records::word_at(self.p, 2 * i))
+        } else if i < unused {
+            Condition::Negative(records::word_at(self.n, 2 * (i - negative)))
+        } else {
+            Condition::Unused(records::word_at(self.names, 2 * (i - unused)))
+        }
+    }
+
+    // The first unmet one of them.
+    #[tactic(auto, unfolding(crate::specs::Conditions::condition_of, crate::specs::Conditions::KnownIn))]
+    pub fn first_unmet(&self, table: &[u16], used: &[u8]) -> Option<Condition>
+        requires { Known self.now.p.now × Known self.now.n.now × (4096 ≤ length table.now) }
+        ensures { unmet_in result ≡ unmet (numbered table.now) (names_in used.now)
+            (conditions (words self.now.p.now) (words self.now.n.now) (words self.now.names.now)) }
+    {
+        first_of(Condition::Positive, self.p, table, used)
+            .or_else(|| first_of(Condition::Negative, self.n, table, used))
+            .or_else(|| first_of(Condition::Unused, self.names, table, used))
     }
 }
 
@@ -78,24 +100,6 @@ pub fn first_of<F: Fn(usize) -> Condition>(
         }
     }
     None
-}
-
-// The first unmet condition of the lists.
-#[tactic(auto, unfolding(crate::specs::Conditions::condition_of, crate::specs::Conditions::KnownIn))]
-pub fn first_unmet(
-    p: &[u8],
-    n: &[u8],
-    names: &[u8],
-    table: &[u16],
-    used: &[u8],
-) -> Option<Condition>
-    requires { Known p.now × Known n.now × (4096 ≤ length table.now) }
-    ensures { unmet_in result ≡ unmet (numbered table.now) (names_in used.now)
-        (conditions (words p.now) (words n.now) (words names.now)) }
-{
-    first_of(Condition::Positive, p, table, used)
-        .or_else(|| first_of(Condition::Negative, n, table, used))
-        .or_else(|| first_of(Condition::Unused, names, table, used))
 }
 
 // Why a step can't fire for a condition: it is blocked, or a name is used.

@@ -49,18 +49,18 @@ record-rule-requires c =
     let here = sym c.search.invariant.left ∙ c.in-Some.ensures.steps in
     (pair_shape _ _ c.requires.0.fine, rule-there _ (known-rule c.requires.0 c.search.invariant.on here))
 
-pub rule_list-p-requires : goal.rule_list-p-requires
-rule_list-p-requires c =
+pub rule_list-requires : goal.rule_list-requires
+rule_list-requires c =
     let here = sym c.search.invariant.left ∙ c.in-Some.ensures.steps in
     (cut_of c.requires.0 c.search.invariant.on here c.record-rule.ensures, lit< tt)
 
-pub rule_list-n-requires : goal.rule_list-n-requires
-rule_list-n-requires c =
+pub rule_list-requires-in-search : goal.rule_list-requires-in-search
+rule_list-requires-in-search c =
     let here = sym c.search.invariant.left ∙ c.in-Some.ensures.steps in
     (cut_of c.requires.0 c.search.invariant.on here c.record-rule.ensures, lit< tt)
 
-pub made-made-requires : goal.made-made-requires
-made-made-requires c =
+pub made-requires : goal.made-requires
+made-requires c =
     let here = sym c.search.invariant.left ∙ c.in-Some.ensures.steps in
     (pair_shape _ _ c.requires.0.fine, rule-in c.requires.0 c.search.invariant.on here c.record-rule.ensures)
 
@@ -71,15 +71,15 @@ pub meets-requires : goal.meets-requires
 meets-requires c =
     let on = c.search.invariant.on in
     let here = sym c.search.invariant.left ∙ c.in-Some.ensures.steps in
-    let known-P = known-list c.requires.0 on here c.record-rule.ensures 0 (lit< tt) c.rule_list-p.ensures in
-    let known-N = known-list c.requires.0 on here c.record-rule.ensures 1 (lit< tt) c.rule_list-n.ensures in (
+    let known-P = known-list c.requires.0 on here c.record-rule.ensures 0 (lit< tt) c.rule_list.ensures in
+    let known-N = known-list c.requires.0 on here c.record-rule.ensures 1 (lit< tt) c.rule_list-in-search.ensures in (
       rw c.nth-c.ensures (asks-known _ _ _ _ known-P known-N (omega arith)),
       table-long c.requires.0 on c.close_judged-rounds.ensures,
     )
 
 pub loop-i-preserved : goal.loop-i-preserved
 loop-i-preserved c =
-    let there : c.loop-i.i < length (asks c.rule_list-p.result.now c.rule_list-n.result.now c.made-made.result.now) =
+    let there : c.loop-i.i < length (asks c.rule_list.result.now c.rule_list-in-search.result.now c.made.result.now) =
     rw asks-length (omega arith) in
     record {
       looking =
@@ -99,7 +99,7 @@ apply-requires c =
     let here = sym c.search.invariant.left ∙ c.in-Some.ensures.steps in (
       known-list c.requires.0 on here c.record-rule.ensures 2 (lit< tt) c.rule_list-a.ensures,
       rw c.section-persistent.ensures (persistent-ascending _ (pair_shape _ _ c.requires.0.fine)),
-      c.made-made.ensures.1,
+      c.made.ensures.1,
       room c.requires.0 on,
       names-room c.requires.0 on,
     )
@@ -115,9 +115,9 @@ search-preserved c =
     let here = sym c.search.invariant.left ∙ c.in-Some.ensures.steps in
     let closed = c.close_judged-rounds.ensures in
     let rule = c.record-rule.ensures in
-    let P = P-is c.requires.0 on here rule c.rule_list-p.ensures in
-    let N = N-is c.requires.0 on here rule c.rule_list-n.ensures in
-    let made = made_is c.requires.0 on here rule _ c.made-made.ensures.0 in
+    let P = P-is c.requires.0 on here rule c.rule_list.ensures in
+    let N = N-is c.requires.0 on here rule c.rule_list-in-search.ensures in
+    let made = made_is c.requires.0 on here rule _ c.made.ensures.0 in
     let none_left = looking_end _ c.loop-i.invariant.looking (rw asks-length (omega (arith, c.count-i-end.ensures))) in
     record {
       on =
@@ -145,10 +145,10 @@ returns-then-not-meets c =
     let here = sym c.search.invariant.left ∙ c.in-Some.ensures.steps in
     let closed = c.close_judged-rounds.ensures in
     let rule = c.record-rule.ensures in
-    let P = P-is c.requires.0 on here rule c.rule_list-p.ensures in
-    let N = N-is c.requires.0 on here rule c.rule_list-n.ensures in
-    let made = made_is c.requires.0 on here rule _ c.made-made.ensures.0 in
-    let there : c.loop-i.i < length (asks c.rule_list-p.result.now c.rule_list-n.result.now c.made-made.result.now) =
+    let P = P-is c.requires.0 on here rule c.rule_list.ensures in
+    let N = N-is c.requires.0 on here rule c.rule_list-in-search.ensures in
+    let made = made_is c.requires.0 on here rule _ c.made.ensures.0 in
+    let there : c.loop-i.i < length (asks c.rule_list.result.now c.rule_list-in-search.result.now c.made.result.now) =
     rw asks-length (omega arith) in
     let hit =
     looking_hit _ c.loop-i.invariant.looking _ there (rw c.nth-c.ensures at (sym c.meets.ensures ∙ c.if-not-meets.true)) in

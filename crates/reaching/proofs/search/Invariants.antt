@@ -20,6 +20,6 @@ invariant-search l = record {
 
 abbrev pub invariant-loop-i : goal.invariant-loop-i
 invariant-loop-i l = record {
-  looking : Looking (asks l.p l.n l.made) (numbered l.table) (names_in l.names) l.i;
+  looking : Looking (asks l.lists.p.now l.lists.n.now l.lists.names.now) (numbered l.table) (names_in l.names) l.i;
   unstopped : l.stop ≡ None;
 }

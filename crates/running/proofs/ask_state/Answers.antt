@@ -58,18 +58,18 @@ record-goal-requires c =
     let known = known-goal _ _ c.requires.0 _ c.goal_of.ensures c.requires.2 in
     (pair_shape _ _ c.requires.0, state-there _ known)
 
-pub list_of-p-requires : goal.list_of-p-requires
+pub list_of-requires : goal.list_of-requires
 unfolding list_count_lem
-list_of-p-requires c = (cut_of _ _ c.requires.0 _ c.goal_of.ensures c.requires.2 _ c.record-goal.ensures, lit< tt)
+list_of-requires c = (cut_of _ _ c.requires.0 _ c.goal_of.ensures c.requires.2 _ c.record-goal.ensures, lit< tt)
 
-pub list_of-n-requires : goal.list_of-n-requires
+pub list_of-requires-2 : goal.list_of-requires-2
 unfolding list_count_lem
-list_of-n-requires c = (cut_of _ _ c.requires.0 _ c.goal_of.ensures c.requires.2 _ c.record-goal.ensures, lit< tt)
+list_of-requires-2 c = (cut_of _ _ c.requires.0 _ c.goal_of.ensures c.requires.2 _ c.record-goal.ensures, lit< tt)
 
 pub first_unmet-requires : goal.first_unmet-requires
 first_unmet-requires c = (
-  known-list _ _ c.requires.0 _ c.goal_of.ensures c.requires.2 _ c.record-goal.ensures 0 (lit< tt) c.list_of-p.ensures,
-  known-list _ _ c.requires.0 _ c.goal_of.ensures c.requires.2 _ c.record-goal.ensures 1 (lit< tt) c.list_of-n.ensures,
+  known-list _ _ c.requires.0 _ c.goal_of.ensures c.requires.2 _ c.record-goal.ensures 0 (lit< tt) c.list_of.ensures,
+  known-list _ _ c.requires.0 _ c.goal_of.ensures c.requires.2 _ c.record-goal.ensures 1 (lit< tt) c.list_of-2.ensures,
   c.requires.1,
 )
 
@@ -77,12 +77,12 @@ pub returns-in-Some : goal.returns-in-Some
 unfolding ending_of
 returns-in-Some c =
     asked-unmet _ (aim-is _ _ c.requires.0 _ c.goal_of.ensures c.requires.2) _ _
-    (unmet-is _ _ c.requires.0 _ c.goal_of.ensures c.requires.2 _ c.record-goal.ensures c.list_of-p.ensures
-    c.list_of-n.ensures _ _ _ c.in-Some.ensures)
+    (unmet-is _ _ c.requires.0 _ c.goal_of.ensures c.requires.2 _ c.record-goal.ensures c.list_of.ensures
+    c.list_of-2.ensures _ _ _ c.in-Some.ensures)
 
 pub returns-in-None : goal.returns-in-None
 unfolding ending_of
 returns-in-None c =
     asked-met _ (aim-is _ _ c.requires.0 _ c.goal_of.ensures c.requires.2) _ _
-    (unmet-is _ _ c.requires.0 _ c.goal_of.ensures c.requires.2 _ c.record-goal.ensures c.list_of-p.ensures
-    c.list_of-n.ensures _ _ _ c.in-None.ensures)
+    (unmet-is _ _ c.requires.0 _ c.goal_of.ensures c.requires.2 _ c.record-goal.ensures c.list_of.ensures
+    c.list_of-2.ensures _ _ _ c.in-None.ensures)

@@ -10,7 +10,7 @@ use Rattle.records.specs.Words.{words}
 use Rattle.closing.specs.Closing.{numbered}
 use Rattle.stepping.specs.declared.conditions.Condition.TheVariants as condition
 use Rattle.stepping.proofs.Looking.{unmet-lists}
-use Rattle.stepping.proofs.conditions.first_unmet.Goals as goal
+use Rattle.stepping.proofs.conditions.Lists.first_unmet.Goals as goal
 
 -- one answer, or where it is none the other
 chosen : {P : Type 0} (r s : Option condition.the_data) → MatchOption r P (λ x. s ≡ Some x) → (o : math.Option Condition)
@@ -26,9 +26,9 @@ returns c =
     let first = λ (cs : List Condition). unmet (numbered a.table.now) (names_in a.used.now) cs in
     let of_P = c.first_of.ensures positive (λ f d i e. rw e refl) in
     let of_N =
-    chosen c.first_of.result c.or_else.result c.or_else.ensures (first (map negative (words a.n.now)))
+    chosen c.first_of.result c.or_else.result c.or_else.ensures (first (map negative (words a.self.now.n.now)))
     (λ h. search rules) in
     let of_names =
-    chosen c.or_else.result c.or_else-2.result c.or_else-2.ensures (first (map unused (words a.names.now)))
+    chosen c.or_else.result c.or_else-2.result c.or_else-2.ensures (first (map unused (words a.self.now.names.now)))
     (λ h. search rules) in
     rw (unmet-lists, ← of_P, ← of_N) of_names

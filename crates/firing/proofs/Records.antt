@@ -1,17 +1,19 @@
 -- What the record of a judged model's rule tells: its lists, and whether it fires.
 use Prim.Native.Nat.{ℕ, ◌+◌, ◌≤◌, ◌<◌}
 use mathlib.Core.Path.{◌≡◌, refl, sym, ap, ◌∙◌}
-use mathlib.Core.Bool.{true, false, ◌&&◌}
+use mathlib.Core.Bool.{Bool, true, false, not, ◌&&◌}
 use mathlib.Core.List.{List, map}
 use mathlib.Core.Option.{Option, none, some, none-ne-some}
 use native.Mathlib.Omega.{arith}
 use lib.Dec.{leb}
 use lib.ListN.{length, get_or, length-map}
+use Rattle.std.specs.Prelude.{Option as Found, Some, None, is_some}
 use borrow.Author.Tests.{eqb-true}
 use Rattle.sets.specs.Sets.{Facts, ◌∈◌}
 use Rattle.sets.proofs.Laws.{by-test}
 use Rattle.meaning.specs.Model.{Rule}
 use Rattle.meaning.specs.Run.{Condition, unmet}
+use Rattle.meaning.specs.Run.Condition.{positive, negative, unused}
 use Rattle.records.specs.Words.{word, words}
 use Rattle.records.specs.Records.{records, most, whole, lists_of, ◌or_else◌}
 use Rattle.records.proofs.Words.{even-length}
@@ -23,10 +25,10 @@ use Rattle.sections.specs.declared.Role.TheVariants.{Rules}
 use Rattle.files.specs.Files.{section_of, fact_count, rule_in, model_of_lem, shape_fault}
 use Rattle.files.specs.Known.{Known}
 use Rattle.files.proofs.Laws.{facts-bound, rules-judged, rules-cut}
-use Rattle.stepping.specs.Conditions.{of_kind_lem}
-use Rattle.stepping.specs.declared.conditions.Kind.TheVariants as kind
+use Rattle.stepping.specs.Conditions.{unmet_in}
+use Rattle.stepping.specs.declared.conditions.Condition.TheVariants as condition
 use Rattle.stepping.proofs.Looking.{unmet-lists}
-use Rattle.firing.specs.Firing.{fires_by, nowhere}
+use Rattle.firing.specs.Firing.{fires_by}
 
 -- ---- a record
 
@@ -66,8 +68,18 @@ module _ (m : List ℕ) (fine : shape_fault m ≡ none) where
 
 -- ---- whether it fires
 
-nowhere_of : (a b c : Option Condition) → nowhere (a or_else b or_else c) ≡ (nowhere a && nowhere b && nowhere c)
-unfolding nowhere ◌or_else◌
+-- no condition is unmet
+abbrev pub nowhere : Option Condition → Bool
+nowhere none = true
+nowhere (some c) = false
+
+-- what an answer says of it
+pub answer-nowhere : (x : Found condition.the_data) {o : Option Condition} → unmet_in x ≡ o → not (is_some x) ≡ nowhere o
+answer-nowhere None e = rw (← e)
+answer-nowhere (Some c) e = rw (← e)
+
+nowhere_of : (a b c : Option Condition) → nowhere ((a or_else b) or_else c) ≡ (nowhere a && nowhere b && nowhere c)
+unfolding ◌or_else◌
 nowhere_of none none c = refl
 nowhere_of none (some d) c = refl
 nowhere_of (some d) b c = refl
@@ -75,31 +87,31 @@ nowhere_of (some d) b c = refl
 -- A rule fires where no list of it has an unmet condition.
 fires-lists : (X used : Facts) (r : Rule)
     → fires_by X used r
-    ≡ (nowhere (unmet X used (map (of_kind_lem kind.Positive) r.P))
-    && nowhere (unmet X used (map (of_kind_lem kind.Negative) r.N))
-    && nowhere (unmet X used (map (of_kind_lem kind.Unused) r.names)))
-unfolding fires_by nowhere
+    ≡ (nowhere (unmet X used (map positive r.P))
+    && nowhere (unmet X used (map negative r.N))
+    && nowhere (unmet X used (map unused r.names)))
+unfolding fires_by
 fires-lists X used r = ap nowhere (unmet-lists X used r.P r.N r.names) ∙ nowhere_of _ _ _
 
 module _ (version : ℕ) (r p : List ℕ) (P-is : ListBytes (rule_kind_lem version) r 0 p) (X used : Facts) where
   -- So it doesn't if P is not met,
-  pub not-by-P : nowhere (unmet X used (map (of_kind_lem kind.Positive) (words p))) ≡ false
+  pub not-by-P : nowhere (unmet X used (map positive (words p))) ≡ false
       → false ≡ fires_by X used (rule_in version r)
   unfolding rule_in
   not-by-P e = sym (fires-lists X used (rule_in version r) ∙ rw (← P-is.facts, e))
 
-  module _ (all-P : nowhere (unmet X used (map (of_kind_lem kind.Positive) (words p))) ≡ true) (n : List ℕ)
+  module _ (all-P : nowhere (unmet X used (map positive (words p))) ≡ true) (n : List ℕ)
       (N-is : ListBytes (rule_kind_lem version) r 1 n) where
     -- nor if N is not met,
-    pub not-by-N : nowhere (unmet X used (map (of_kind_lem kind.Negative) (words n))) ≡ false
+    pub not-by-N : nowhere (unmet X used (map negative (words n))) ≡ false
         → false ≡ fires_by X used (rule_in version r)
     unfolding rule_in
     not-by-N e = sym (fires-lists X used (rule_in version r) ∙ rw (← P-is.facts, all-P, ← N-is.facts, e))
 
     -- and otherwise it does exactly if the names are.
-    pub by_names : nowhere (unmet X used (map (of_kind_lem kind.Negative) (words n))) ≡ true → (made : List ℕ)
+    pub by_names : nowhere (unmet X used (map negative (words n))) ≡ true → (made : List ℕ)
         → words made ≡ (rule_in version r).names
-        → nowhere (unmet X used (map (of_kind_lem kind.Unused) (words made))) ≡ fires_by X used (rule_in version r)
+        → nowhere (unmet X used (map unused (words made))) ≡ fires_by X used (rule_in version r)
     unfolding rule_in
     by_names all-N made is =
         sym (fires-lists X used (rule_in version r) ∙ rw (← P-is.facts, all-P, ← N-is.facts, all-N, ← is))

@@ -5,7 +5,7 @@ use Rattle.std.proofs.Math.Option.{Option, none, some, map}
 use Rattle.sets.specs.Sets.{Facts, ◌∈◌}
 use Rattle.meaning.specs.Model.{Rule, Model, State, aims}
 use Rattle.meaning.specs.Rounds.{closure}
-use Rattle.meaning.specs.Run.{Condition, unmet, conditions}
+use Rattle.meaning.specs.Run.{unmet, conditions}
 use Rattle.meaning.specs.Published.{Transition}
 use Rattle.records.specs.Records.{given, ◌or_else◌}
 use Rattle.files.specs.Files.{model_of_lem, files_fault, steps_fault}
@@ -87,11 +87,6 @@ FiresIn m t before after ix ix' list list' r =
     Fires (rules_refusal m t before ix list) m t before after ix ix' list list' r
 
 -- ---- between functions. No promise to the outside rests on this.
-
--- no condition is unmet
-unfoldable pub nowhere : Option Condition → Bool
-nowhere none = true
-nowhere (some c) = false
 
 -- the numbers stand at the front of the list, and there are so many
 pub record Numbered (ks list list' : List ℕ) (n : ℕ) : Type 0 where

@@ -3,41 +3,27 @@
 
 #![tactic(auto)]
 
-ghost use Rattle.std.specs.Prelude.{◌≤◌, ◌≡◌, map, length, get_or};
+ghost use Rattle.std.specs.Prelude.{◌≤◌, ◌≡◌, length, get_or};
 ghost use Rattle.std.proofs.Math.Option.{none};
 ghost use Rattle.sets.specs.Sets.{◌∈◌};
-ghost use Rattle.meaning.specs.Run.{unmet};
-ghost use Rattle.records.specs.Words.{words};
 ghost use Rattle.records.specs.Records.{records};
 ghost use Rattle.sections.specs.declared.Role.{Role};
 ghost use Rattle.files.specs.Files.{section_of, rule_in, model_of_lem, shape_fault};
 ghost use Rattle.closing.specs.Closing.{numbered};
-ghost use Rattle.stepping.specs.Conditions.{names_in, of_kind_lem, KnownList};
+ghost use Rattle.stepping.specs.Conditions.{names_in};
 ghost use Rattle.checking.specs.Passing.{Passed};
-ghost use Rattle.firing.specs.Firing.{fires_by, numbers_of, Numbered, FiresIn, nowhere};
+ghost use Rattle.firing.specs.Firing.{fires_by, numbers_of, Numbered, FiresIn};
 
 use files::{Counts, Pair, both, held};
 use sections::Role;
 use stepping::conditions;
-use stepping::conditions::{Kind, Unmet};
+use stepping::conditions::Condition;
 
 // How many rules fire, or a refusal's number.
 #[derive(Clone, Copy)]
 pub enum Fired {
     Count(usize),
     Refused(u8),
-}
-
-// Whether all conditions of a list of the kind are met, by the round numbers and the used names of a state.
-fn all_met(kind: Kind, list: &[u8], table: &[u16], names: &[u8]) -> bool
-    requires { KnownList kind list.now × (4096 ≤ length table.now) }
-    ensures { result ≡ nowhere (unmet (numbered table.now) (names_in names.now)
-        (map (of_kind_lem kind) (words list.now))) }
-{
-    match conditions::first_of(kind, list, table, names) {
-        Unmet::Nowhere => true,
-        Unmet::At(_) => false,
-    }
 }
 
 // Whether the rule that a record is fires, by the round numbers and the used names of a state. A list is cut only where
@@ -49,15 +35,15 @@ fn fires(model: &[u8], rule: &[u8], table: &[u16], names: &[u8]) -> bool
         (rule_in (get_or model.now 0 0) rule.now) }
 {
     let p = held::rule_list(model, rule, 0);
-    if !all_met(Kind::Positive, p, table, names) {
+    if conditions::first_of(Condition::Positive, p, table, names).is_some() {
         return false;
     }
     let n = held::rule_list(model, rule, 1);
-    if !all_met(Kind::Negative, n, table, names) {
+    if conditions::first_of(Condition::Negative, n, table, names).is_some() {
         return false;
     }
     let made = held::made(model, rule);
-    all_met(Kind::Unused, made, table, names)
+    conditions::first_of(Condition::Unused, made, table, names).is_none()
 }
 
 // Writes the numbers of all rules that fire, by the round numbers and the used names of a state, to the front of the

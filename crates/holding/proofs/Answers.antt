@@ -6,6 +6,7 @@ use mathlib.Core.List.{List, [], ◌∷◌}
 use mathlib.Core.Option.{Option, none, some}
 use lib.Dec.{leb}
 use lib.ListN.{length, get_or}
+use Rattle.std.specs.Prelude.{Some, None}
 use Rattle.sets.specs.Sets.{Facts}
 use Rattle.sets.proofs.Laws.{by-test}
 use Rattle.meaning.specs.Past.{History, truth}
@@ -23,7 +24,6 @@ use Rattle.worklist.specs.declared.Worked.{Worked}
 use Rattle.closing.specs.Closing.{IndexHolds, Index, no_places_lem}
 use Rattle.stepping.specs.Conditions.{condition_of, unmet_in, stop_number}
 use Rattle.stepping.specs.declared.conditions.Condition.TheVariants as condition
-use Rattle.stepping.specs.declared.conditions.Unmet.TheVariants as found
 use Rattle.reaching.specs.Reaching.{Lent}
 use Rattle.checking.specs.Verdict.{no_space_lem}
 use Rattle.running.specs.Outcomes.{outcome}
@@ -62,9 +62,9 @@ module _ (m t : List ℕ) where
 
   module _ {before after : Lent} {bits : List ℕ} {r : Steps} (s : StepsTo m t before after bits r) (g : ℕ) where
     -- A step can't fire: its number, and all is left as by the check.
-    pub asks-blocked : (c : condition.the_data) → r.stop ≡ found.At c → {k : ℕ} → k ≡ stop_number (condition_of c)
+    pub asks-blocked : (c : condition.the_data) → r.stop ≡ Some c → {k : ℕ} → k ≡ stop_number (condition_of c)
         → Asks m t g before after (Answer.Refused k)
-    unfolding unmet_in stopped answer Buffers outcome run outcome_of reached
+    unfolding stopped answer Buffers outcome run outcome_of reached
     asks-blocked c e is =
         let stop : (reached m t).stop ≡ some (condition_of c) = sym s.stop ∙ ap unmet_in e in
         let by = stop_is ∙ stop in
@@ -80,11 +80,11 @@ module _ (m t : List ℕ) where
         }
 
     -- All steps fire: the last state is closed for the fact.
-    pub asks-worked : r.stop ≡ found.Nowhere → g < 4096 → {table : List ℕ} {w : Worked}
+    pub asks-worked : r.stop ≡ None → g < 4096 → {table : List ℕ} {w : Worked}
         → WorksFor (model_of_lem m).clauses (members after.state) g after.table table w
         → Asks m t g before (record { state = after.state; table = table; names = after.names })
         (Answer.Round (get_or table g 0) w.rounds)
-    unfolding unmet_in stopped answer Buffers outcome run outcome_of reached
+    unfolding stopped answer Buffers outcome run outcome_of reached
     asks-worked e low {table} {w} worked =
         let stop : (reached m t).stop ≡ none = sym s.stop ∙ ap unmet_in e in
         let by = stop_is ∙ stop in

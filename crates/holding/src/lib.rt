@@ -14,7 +14,6 @@ ghost use Rattle.holding.specs.Holding.{Asks, HoldsIn};
 
 use files::{Counts, Pair, both, held};
 use stepping::conditions;
-use stepping::conditions::Unmet;
 
 // The fact's round number, 65,535 where it is absent, and the rounds run on the last state; or a refusal's number.
 #[derive(Clone, Copy)]
@@ -47,10 +46,9 @@ fn run_for(
     let reached = reaching::reach(
         model, trace, codes, state, table, names, &mut kept, index, ends, starts,
     );
-    let stop = reached.stop;
-    match stop {
-        Unmet::At(c) => Answer::Refused(conditions::number_of(c)),
-        Unmet::Nowhere => {
+    match reached.stop {
+        Some(c) => Answer::Refused(conditions::refusal_of(c).number()),
+        None => {
             let worked = closing::close_worked(model, state, table, index, ends, starts, asked);
             Answer::Round(table[asked] as usize, worked.rounds)
         }

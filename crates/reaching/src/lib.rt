@@ -13,16 +13,17 @@ ghost use Rattle.closing.specs.Closing.{Way};
 ghost use Rattle.reaching.specs.Reaching.{Ready, state_in, aimed, Keeps, StepsTo};
 
 use files::held;
+use records::Numbers;
 use sections::Role;
 use stepping::conditions;
-use stepping::conditions::Unmet;
+use stepping::conditions::{Condition, Lists};
 
 // Where the steps led: how many fired, the rounds counted, and the condition that blocks the next step.
 #[derive(Clone, Copy)]
 pub struct Steps {
     pub fired: usize,
     pub rounds: usize,
-    pub stop: Unmet,
+    pub stop: Option<Condition>,
 }
 
 // The number of the trace's goal. The caller has judged the trace.
@@ -59,33 +60,30 @@ fn search(
         kept.new result }
 {
     let entries = held::entries(trace);
-    let steps = entries.len() / 2 - 1;
     let persistent = held::section(model, Role::Persistent);
     let mut fired = 0;
     let mut rounds = 0;
-    let stop = 'search: loop {
-        if steps <= fired {
-            break 'search Unmet::Nowhere;
-        }
+    let mut stop = None;
+    'search: for k in Numbers(&entries[2..]) {
         rounds += closing::close_judged(model, state, table, index, ends, starts);
-        let rule = held::record(model, Role::Rules, records::word_at(entries, 2 + 2 * fired));
-        let p = held::rule_list(model, rule, 0);
-        let n = held::rule_list(model, rule, 1);
-        let made = held::made(model, rule);
-        let count = conditions::count(p, n, made);
-        let mut i = 0;
-        while i < count {
-            let c = conditions::nth(p, n, made, i);
+        let rule = held::record(model, Role::Rules, k);
+        let lists = Lists {
+            p: held::rule_list(model, rule, 0),
+            n: held::rule_list(model, rule, 1),
+            names: held::made(model, rule),
+        };
+        for i in 0..lists.count() {
+            let c = lists.nth(i);
             if !conditions::meets(table, names, c) {
-                break 'search Unmet::At(c);
+                stop = Some(c);
+                break 'search;
             }
-            i += 1;
         }
         past::advance(codes, table, kept);
         let a = held::rule_list(model, rule, 2);
-        stepping::apply(p, a, persistent, made, state, names);
+        stepping::apply(lists.p, a, persistent, lists.names, state, names);
         fired += 1;
-    };
+    }
     Steps {
         fired,
         rounds,

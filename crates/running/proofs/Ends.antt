@@ -7,6 +7,7 @@ use mathlib.Core.Logic.{◌⊎◌, inl, inr, ⊎_elim}
 use mathlib.Core.Option.{none, some}
 use native.Mathlib.Omega.{arith}
 use lib.ListN.{length, get_or, drop}
+use Rattle.std.specs.Prelude.{Some, None}
 use Rattle.sets.specs.Sets.{Facts, size, ◌∈◌}
 use Rattle.sets.proofs.Laws.{get_or_in, below_or_from}
 use Rattle.sets.proofs.Size.{size_below}
@@ -38,7 +39,6 @@ use Rattle.reaching.specs.Reaching.{reached, counted, aimed, StepsTo}
 use Rattle.reaching.specs.Reaching.{Ready}
 use Rattle.running.specs.Running.{Numbers, EndsAs}
 use Rattle.stepping.specs.declared.conditions.Condition.TheVariants as condition
-use Rattle.stepping.specs.declared.conditions.Unmet.TheVariants as found
 use Rattle.running.specs.declared.Ending.TheVariants as ends
 use Rattle.reaching.specs.declared.Steps.{Steps}
 use Rattle.reaching.proofs.Stepwise.{closure-shown}
@@ -137,9 +137,9 @@ module _ (m t : List ℕ) where
     }
 
     -- A blocked step ends the run.
-    pub ends-blocked : (c : condition.the_data) → r.stop ≡ found.At c
+    pub ends-blocked : (c : condition.the_data) → r.stop ≡ Some c
         → EndsAs m t l l (record { ending = ends.Blocked c; step = r.fired; rounds = r.rounds })
-    unfolding ending_of outcome run outcome_of unmet_in reached
+    unfolding ending_of outcome run outcome_of reached
     ends-blocked c e =
         let stop = sym s.stop ∙ ap unmet_in e in
         record {
@@ -151,12 +151,12 @@ module _ (m t : List ℕ) where
         }
 
     -- Otherwise what is asked of the last state does.
-    pub ends_asked : shape_fault m ≡ none → {table : List ℕ} {n : ℕ} {e : ends.the_data} → r.stop ≡ found.Nowhere
+    pub ends_asked : shape_fault m ≡ none → {table : List ℕ} {n : ℕ} {e : ends.the_data} → r.stop ≡ None
         → ClosesUnder (model_of_lem m).clauses l.state l.table table n
         → Asked (aimed m t) (numbered table) (names_in l.names) bits (ending_of e)
         → EndsAs m t l (record { state = l.state; table = table; names = l.names })
         (record { ending = e; step = r.fired; rounds = r.rounds + n })
-    unfolding outcome run outcome_of unmet_in reached
+    unfolding outcome run outcome_of reached
     ends_asked fine {n = n} q closed asks =
         let stop = sym s.stop ∙ ap unmet_in q in
         let same : members l.state ≡ (reached m t).state.facts = fun_ext s.facts in

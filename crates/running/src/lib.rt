@@ -19,7 +19,7 @@ use reaching::Steps;
 use records::Kind;
 use sections::Role;
 use stepping::conditions;
-use stepping::conditions::{Condition, Unmet};
+use stepping::conditions::{Condition, Lists};
 
 // Document 01's verdict: its number and the values that the line shows, and the part at fault. An unmet condition has a
 // kind, 1 positive or 2 negative, and a negative one the round in which its fact arose; 0 and 65,535 stand for none.
@@ -61,11 +61,14 @@ fn ask_state(model: &[u8], trace: &[u8], table: &[u16], names: &[u8]) -> Ending
         (numbered table.now) (names_in names.now) [] }
 {
     let goal = held::record(model, Role::Goals, reaching::goal_of(trace));
-    let p = lists::list_of(goal, Kind::Goal, 0);
-    let n = lists::list_of(goal, Kind::Goal, 1);
-    match conditions::first_unmet(p, n, &goal[..0], table, names) {
-        Unmet::Nowhere => Ending::Attack,
-        Unmet::At(c) => Ending::NotMet(c),
+    let asked = Lists {
+        p: lists::list_of(goal, Kind::Goal, 0),
+        n: lists::list_of(goal, Kind::Goal, 1),
+        names: &goal[..0],
+    };
+    match asked.first_unmet(table, names) {
+        Some(c) => Ending::NotMet(c),
+        None => Ending::Attack,
     }
 }
 
@@ -117,14 +120,13 @@ fn finish(
         (record { state = state.entry.now; table = table.old; names = names.now })
         (record { state = state.entry.now; table = table.new; names = names.now }) result }
 {
-    let stop = reached.stop;
-    match stop {
-        Unmet::At(c) => Ended {
+    match reached.stop {
+        Some(c) => Ended {
             ending: Ending::Blocked(c),
             step: reached.fired,
             rounds: reached.rounds,
         },
-        Unmet::Nowhere => {
+        None => {
             let rounds = closing::close_judged(model, state, table, index, ends, starts);
             Ended {
                 ending: ask(model, trace, codes, table, names, kept),
@@ -143,9 +145,11 @@ fn verdict_of(model: &[u8], trace: &[u8], ended: Ended, held: usize, table: &[u1
     ensures { result
         ≡ ran model.now trace.now (outcome model.now trace.now) }
 {
-    let step = ended.step;
-    let rounds = ended.rounds;
-    let ending = ended.ending;
+    let Ended {
+        ending,
+        step,
+        rounds,
+    } = ended;
     match ending {
         Ending::Attack => Verdict {
             number: 0,
@@ -162,7 +166,7 @@ fn verdict_of(model: &[u8], trace: &[u8], ended: Ended, held: usize, table: &[u1
             },
         },
         Ending::Blocked(c) => Verdict {
-            number: conditions::number_of(c),
+            number: conditions::refusal_of(c).number(),
             step,
             fact: conditions::fact_of(c),
             rounds,

@@ -1,51 +1,34 @@
 -- Laws on changing a set number by number along a list.
-use Prim.Native.Nat.{ℕ, ◌+◌, ◌≤◌, ◌<◌}
-use mathlib.Core.Path.{◌≡◌, refl, sym, ap, ◌∙◌}
+use Prim.Native.Nat.{ℕ, ◌<◌}
+use mathlib.Core.Path.{◌≡◌, refl}
 use mathlib.Core.Bool.{Bool, true, false, not, ◌&&◌, ◌||◌}
-use mathlib.Core.List.Memᴰ
-use mathlib.Core.List.{List, ◌∷◌}
-use native.Mathlib.Omega.{arith}
+use mathlib.Core.List.{List, [], ◌∷◌}
 use borrow.Author.Tests.{eqb-true}
 use lib.Dec.{eqb}
-use lib.ListN.{length, drop, length-drop}
 use Rattle.sets.specs.Sets.{Facts, any, listed, ◌∈◌}
 use Rattle.sets.proofs.Laws.{by-test}
 use Rattle.facts.specs.Facts.{within}
-use Rattle.records.specs.Words.{word, words}
-use Rattle.records.proofs.Words.{words-at, words-none}
 
--- every number of these bytes is below the limit
+-- every number of these is below the limit
 abbrev pub Below : ℕ → List ℕ → Type 0
-Below limit bytes = (f : ℕ) → f ∈ words bytes → f < limit
-
--- the number at a place is, and so are those after it
-pub known-here : (limit : ℕ) (list : List ℕ) (at : ℕ) → at + 2 ≤ length list → Below limit (drop at list)
-    → (word (drop at list) < limit) × Below limit (drop (at + 2) list)
-known-here limit list at h k =
-    let more : 2 ≤ length (drop at list) = rw length-drop (omega arith) in
-    let e : words (drop at list) ≡ word (drop at list) ∷ words (drop (at + 2) list) = words-at list at more in
-    (k (word (drop at list)) (rw e (Memᴰ.head refl)), λ f i. k f (rw e (Memᴰ.tail i)))
+Below limit ns = (f : ℕ) → f ∈ ns → f < limit
 
 -- u is what a number of the list does to the membership of a number g in a set of a width: adding or removing
-module _ (w : ℕ) (u : ℕ → Bool → Bool → Bool) (idle : (g : ℕ) (x : Bool) → u g x false ≡ x)
+module _ (w : ℕ) (u : ℕ → Bool → Bool → Bool)
+    (idle : (g : ℕ) (x : Bool) → u g x false ≡ x)
     (twice : (g : ℕ) (x a b : Bool) → u g (u g x a) b ≡ u g x (a || b)) where
-  -- one more is done: what those from here on do is what those from the next place on do afterwards
-  pub done-one : (list set set' : List ℕ) (at : ℕ) → at + 2 ≤ length list
-      → ((g : ℕ) → within w set' g ≡ u g (within w set g) (eqb g (word (drop at list)))) → (g : ℕ)
-      → u g (within w set' g) (listed (words (drop (at + 2) list)) g)
-      ≡ u g (within w set g) (listed (words (drop at list)) g)
+  -- one more is done: what the later ones do is what it and they do
+  pub done-one : {ns : List ℕ} {n : ℕ} {later : List ℕ} (set set' : List ℕ) → ns ≡ n ∷ later
+      → ((g : ℕ) → within w set' g ≡ u g (within w set g) (eqb g n)) → (g : ℕ)
+      → u g (within w set' g) (listed later g) ≡ u g (within w set g) (listed ns g)
   unfolding listed any
-  done-one list set set' at h e g =
-      let here = sym (words-at list at (rw length-drop (omega arith))) in
-      rw (e g) (twice g _ _ _ ∙ ap (λ (l : List ℕ). u g (within w set g) (listed l g)) here)
+  done-one set set' here e g = rw (e g, here) (twice g _ _ _)
 
-  -- where fewer than two bytes are left there is nothing to do
-  pub done_all : (list set : List ℕ) (at : ℕ) → length list < at + 2 → (g : ℕ)
-      → u g (within w set g) (listed (words (drop at list)) g) ≡ within w set g
+  -- where none is left there is nothing to do
+  pub done_all : {ns : List ℕ} (set : List ℕ) → ns ≡ [] → (g : ℕ)
+      → u g (within w set g) (listed ns g) ≡ within w set g
   unfolding listed any
-  done_all list set at h g =
-      ap (λ (l : List ℕ). u g (within w set g) (listed l g)) (words-none (drop at list) (rw length-drop (omega arith)))
-      ∙ idle g _
+  done_all set none g = rw none (idle g _)
 
 -- adding, then adding
 pub add_twice : (g : ℕ) (x a b : Bool) → ((x || a) || b) ≡ (x || (a || b))

@@ -4,10 +4,10 @@ use Prim.Native.Nat.{ℕ, ◌+◌, ◌-◌, ◌*◌, ◌/◌, ◌≤◌, ◌<◌
 use mathlib.Core.Path.{◌≡◌, refl, ap, ◌∙◌}
 use mathlib.Core.Bool.{true, false, not}
 use mathlib.Core.Logic.{⊎_elim}
-use mathlib.Core.List.{List, [], ◌∷◌, ◌++◌, map, append_assoc}
+use mathlib.Core.List.{List, [], ◌∷◌, ◌++◌, map}
 use mathlib.Core.Option.{none, some}
 use native.Mathlib.Omega.{arith}
-use lib.ListN.{length, get_or, drop, length-map, get_or-map}
+use lib.ListN.{length, get_or, drop}
 use Rattle.sets.specs.Sets.{Facts}
 use Rattle.sets.proofs.Laws.{below_or_from, by-test, get_or_in}
 use Rattle.meaning.specs.Run.{Condition, met, conditions, find, unmet}
@@ -18,8 +18,7 @@ use Rattle.records.specs.Words.{word, words}
 use Rattle.records.specs.Records.{◌or_else◌}
 use Rattle.records.proofs.Words.{words-index, length-words}
 use Rattle.files.specs.Known.{Known}
-use Rattle.stepping.specs.Conditions.{KnownIn, of_kind_lem, KnownList}
-use Rattle.stepping.specs.declared.conditions.Kind.TheVariants as kind
+use Rattle.stepping.specs.Conditions.{KnownIn}
 
 -- ---- three lists
 
@@ -78,28 +77,23 @@ module _ (p n names : List ℕ) where
         last : length p / 2 + length n / 2 ≤ i → KnownIn (get_or asks i (positive 0))
         last l = rw (asks-unused l h) tt
 
--- ---- one list
-
-module _ (k : kind.the_data) (bytes : List ℕ) where
-  -- the conditions that a list's bytes are
-  abbrev pub list_asks : List Condition
-  list_asks = map (of_kind_lem k) (words bytes)
-
-  pub list_length : length list_asks ≡ length bytes / 2
-  list_length = length-map (words bytes) (of_kind_lem k) ∙ length-words bytes
-
-  module _ (i : ℕ) (h : i < length bytes / 2) where
-    there : i < length (words bytes)
-    there = rw length-words h
-
-    pub list_at : get_or list_asks i (of_kind_lem k 0) ≡ of_kind_lem k (word (drop (2 * i) bytes))
-    list_at = get_or-map (of_kind_lem k) (words bytes) i 0 ∙ ap (of_kind_lem k) (words-index bytes i there)
-
-    pub list_known : KnownList k bytes → KnownIn (of_kind_lem k (word (drop (2 * i) bytes)))
-    unfolding KnownList
-    list_known known = rw (← words-index bytes i there) (known _ (get_or_in (words bytes) i 0 there))
-
 -- ---- the search
+
+module _ (X used : Facts) (c : Condition) (cs : List Condition) where
+  -- a condition that is not met is the first,
+  pub unmet-here : met X used c ≡ false → unmet X used (c ∷ cs) ≡ some c
+  unfolding unmet find
+  unmet-here e = rw (e, find)
+
+  -- after one that is met those behind it are searched
+  pub unmet-later : met X used c ≡ true → unmet X used (c ∷ cs) ≡ unmet X used cs
+  unfolding unmet find
+  unmet-later e = rw (e, find)
+
+-- none is unmet of none
+pub unmet_none : (X used : Facts) → unmet X used [] ≡ none
+unfolding unmet find
+unmet_none X used = refl
 
 module _ (cs : List Condition) where
   -- the search along conditions has come to condition i
@@ -141,10 +135,8 @@ unmet_append X used (c ∷ cs) ds =
 -- So that of a rule is P's, if P has one, otherwise N's, if N has one, otherwise the names'.
 pub unmet-lists : (X used : Facts) (P N names : List ℕ)
     → unmet X used (conditions P N names)
-    ≡ (unmet X used (map (of_kind_lem kind.Positive) P) or_else unmet X used (map (of_kind_lem kind.Negative) N)
-    or_else unmet X used (map (of_kind_lem kind.Unused) names))
-unfolding conditions of_kind_lem
+    ≡ ((unmet X used (map positive P) or_else unmet X used (map negative N)) or_else unmet X used (map unused names))
+unfolding conditions
 unmet-lists X used P N names =
-    ap (unmet X used) (append_assoc (map positive P) (map negative N) (map unused names))
-    ∙ unmet_append X used (map positive P) _
-    ∙ ap (λ o. unmet X used (map positive P) or_else o) (unmet_append X used (map negative N) (map unused names))
+    unmet_append X used (map positive P ++ map negative N) (map unused names)
+    ∙ ap (λ o. o or_else unmet X used (map unused names)) (unmet_append X used (map positive P) (map negative N))

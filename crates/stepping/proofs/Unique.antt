@@ -4,11 +4,11 @@ use mathlib.Core.Path.{◌≡◌, refl, sym, ap, ◌∙◌}
 use mathlib.Core.List.{List}
 use native.Mathlib.Omega.{arith}
 use Rattle.sets.specs.Sets.{Facts}
+use Rattle.std.specs.Prelude.{Option, Some, None}
 use Rattle.facts.proofs.Laws.{Bytes, determined}
 use Rattle.stepping.specs.Conditions.{condition_of, unmet_in}
 use Rattle.stepping.specs.Stepping.{Holds}
 use Rattle.stepping.specs.declared.conditions.Condition.TheVariants as condition
-use Rattle.stepping.specs.declared.conditions.Unmet.TheVariants as found
 
 -- Two buffers that `fill`, `apply`, `add_all` or `remove_all` can leave are the same.
 pub holds_unique : {width : ℕ} {before a b : List ℕ} {X : Facts} → Bytes a → Bytes b → Holds width before a X
@@ -29,11 +29,10 @@ condition_unique (condition.Unused f) (condition.Positive g) e = let z : ◌≡�
 condition_unique (condition.Unused f) (condition.Negative g) e = let z : ◌≡◌ {A = ℕ} 0 1 = cc in absurd (omega arith)
 
 -- The same for what `first_of` and `first_unmet` promise.
-pub unmet_unique : (x y : found.the_data) → unmet_in x ≡ unmet_in y → x ≡ y
-unfolding unmet_in
-unmet_unique found.Nowhere found.Nowhere e = refl
-unmet_unique found.Nowhere (found.At d) e = let z : ◌≡◌ {A = ℕ} 0 1 = cc in absurd (omega arith)
-unmet_unique (found.At c) found.Nowhere e = let z : ◌≡◌ {A = ℕ} 0 1 = cc in absurd (omega arith)
-unmet_unique (found.At c) (found.At d) e =
+pub unmet_unique : (x y : Option condition.the_data) → unmet_in x ≡ unmet_in y → x ≡ y
+unmet_unique None None e = refl
+unmet_unique None (Some d) e = cc
+unmet_unique (Some c) None e = cc
+unmet_unique (Some c) (Some d) e =
     let h : condition_of c ≡ condition_of d = cc in
-    ap found.At (condition_unique c d h)
+    ap Some (condition_unique c d h)

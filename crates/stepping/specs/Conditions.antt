@@ -1,15 +1,12 @@
 -- The used names in their bytes, a condition in the words of `meaning`, and what an unmet one says in a verdict
 -- (document 01, "The verdict also has"; document 02, wishes 7 and 9).
-use Rattle.std.specs.Prelude.{ℕ, ◌<◌, List}
+use Rattle.std.specs.Prelude.{ℕ, ◌<◌, List, Option as Found, Some, None}
 use Rattle.std.proofs.Math.Option.{Option, none, some}
-use Rattle.sets.specs.Sets.{Facts, ◌∈◌}
+use Rattle.sets.specs.Sets.{Facts}
 use Rattle.meaning.specs.Run.{Condition}
 use Rattle.meaning.specs.Run.Condition.{positive, negative, unused}
-use Rattle.records.specs.Words.{words}
 use Rattle.facts.specs.Facts.{within}
 use Rattle.stepping.specs.declared.conditions.Condition.TheVariants as condition
-use Rattle.stepping.specs.declared.conditions.Kind.TheVariants as kind
-use Rattle.stepping.specs.declared.conditions.Unmet.TheVariants as found
 
 -- ---- what is asked
 
@@ -22,27 +19,15 @@ condition_of (condition.Positive f) = positive f
 condition_of (condition.Negative f) = negative f
 condition_of (condition.Unused n) = unused n
 
-unfoldable pub unmet_in : found.the_data → Option Condition
-unfolding condition_of
-unmet_in found.Nowhere = none
-unmet_in (found.At c) = some (condition_of c)
+abbrev pub unmet_in : Found condition.the_data → Option Condition
+unmet_in None = none
+unmet_in (Some c) = some (condition_of c)
 
 -- a table has an entry for the condition's fact, where it is judged by the table
 unfoldable pub KnownIn : Condition → Type 0
 KnownIn (positive f) = f < 4096
 KnownIn (negative f) = f < 4096
 KnownIn (unused n) = Unit
-
--- what a number of a list asks, by the list's kind
-unfoldable pub of_kind_lem : kind.the_data → ℕ → Condition
-of_kind_lem kind.Positive f = positive f
-of_kind_lem kind.Negative f = negative f
-of_kind_lem kind.Unused n = unused n
-
--- a table has an entry for each fact of a list that is judged by the table
-unfoldable pub KnownList : kind.the_data → List ℕ → Type 0
-unfolding KnownIn of_kind_lem words
-KnownList k bytes = (f : ℕ) → f ∈ words bytes → KnownIn (of_kind_lem k f)
 
 -- ---- what a verdict says of it
 

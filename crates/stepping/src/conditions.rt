@@ -1,14 +1,17 @@
 // Conditions of rules and attack states, judged in the round table and the used names of a state. The caller has judged
 // the files.
-ghost use Rattle.std.specs.Prelude.{◌≡◌, map, ◌+◌, ◌/◌, ◌≤◌, ◌<◌, length, get_or};
-ghost use Rattle.meaning.specs.Run.{met, conditions, unmet};
+ghost use Rattle.std.specs.Prelude.{◌≡◌, ℕ, map, ◌+◌, ◌/◌, ◌≤◌, ◌<◌, length, get_or};
+ghost use Rattle.sets.specs.Sets.{◌∈◌};
+ghost use Rattle.meaning.specs.Run.{Condition as Asked, met, conditions, unmet};
 ghost use Rattle.meaning.specs.Run.Condition.{positive};
 ghost use Rattle.records.specs.Words.{words};
+ghost use Rattle.records.specs.Refusals.{refusal_number};
 ghost use Rattle.closing.specs.Closing.{numbered};
 ghost use Rattle.files.specs.Known.{Known};
 ghost use Rattle.stepping.specs.Conditions.{stop_number, fact_in, kind_in, round_in};
 ghost use Rattle.stepping.specs.Conditions.{condition_of, unmet_in, KnownIn, names_in};
-ghost use Rattle.stepping.specs.Conditions.{of_kind_lem, KnownList};
+
+use records::{Numbers, Refusal};
 
 // A condition with its fact: of P, which must be in the closure, or of N, which must not; or a name, to be unused.
 #[derive(Clone, Copy)]
@@ -18,47 +21,55 @@ pub enum Condition {
     Unused(usize),
 }
 
-// The kinds of lists of conditions: P, N, and the names.
+// The conditions of a rule or an attack state: the lists P and N, and the names that it makes.
 #[derive(Clone, Copy)]
-pub enum Kind {
-    Positive,
-    Negative,
-    Unused,
+pub struct Lists<'a> {
+    pub p: &'a [u8],
+    pub n: &'a [u8],
+    pub names: &'a [u8],
 }
 
-// The first unmet condition, if there is one.
-#[derive(Clone, Copy)]
-pub enum Unmet {
-    Nowhere,
-    At(Condition),
-}
+impl<'a> Lists<'a> {
+    // How many conditions they are.
+    pub fn count(&self) -> usize
+        ensures { result ≡ length self.now.p.now / 2 + length self.now.n.now / 2 + length self.now.names.now / 2 }
+    {
+        self.p.len() / 2 + self.n.len() / 2 + self.names.len() / 2
+    }
 
-// How many conditions the lists are: two of facts and one of names.
-pub fn count(p: &[u8], n: &[u8], names: &[u8]) -> usize
-    ensures { result ≡ length p.now / 2 + length n.now / 2 + length names.now / 2 }
-{
-    p.len() / 2 + n.len() / 2 + names.len() / 2
-}
+    // Condition i of them: P in its order, then N in its order, then the names.
+    pub fn nth(&self, i: usize) -> Condition
+        requires { i < length self.now.p.now / 2 + length self.now.n.now / 2 + length self.now.names.now / 2 }
+        ensures { condition_of result
+            ≡ get_or (conditions (words self.now.p.now) (words self.now.n.now) (words self.now.names.now)) i
+            (positive 0) }
+    {
+        let negative = self.p.len() / 2;
+        let unused = negative + self.n.len() / 2;
+        if i < negative {
+            Condition::Positive(records::word_at(self.p, 2 * i))
+        } else if i < unused {
+            Condition::Negative(records::word_at(self.n, 2 * (i - negative)))
+        } else {
+            Condition::Unused(records::word_at(self.names, 2 * (i - unused)))
+        }
+    }
 
-// Condition i of the lists: P in its order, then N in its order, then the names.
-pub fn nth(p: &[u8], n: &[u8], names: &[u8], i: usize) -> Condition
-    requires { i < length p.now / 2 + length n.now / 2 + length names.now / 2 }
-    ensures { condition_of result
-        ≡ get_or (conditions (words p.now) (words n.now) (words names.now)) i
-        (positive 0) }
-{
-    let negative = p.len() / 2;
-    let unused = negative + n.len() / 2;
-    if i < negative {
-        Condition::Positive(records::word_at(p, 2 * i))
-    } else if i < unused {
-        Condition::Negative(records::word_at(n, 2 * (i - negative)))
-    } else {
-        Condition::Unused(records::word_at(names, 2 * (i - unused)))
+    // The first unmet one of them.
+    #[tactic(auto, unfolding(crate::specs::Conditions::condition_of, crate::specs::Conditions::KnownIn))]
+    pub fn first_unmet(&self, table: &[u16], used: &[u8]) -> Option<Condition>
+        requires { Known self.now.p.now × Known self.now.n.now × (4096 ≤ length table.now) }
+        ensures { unmet_in result ≡ unmet (numbered table.now) (names_in used.now)
+            (conditions (words self.now.p.now) (words self.now.n.now) (words self.now.names.now)) }
+    {
+        first_of(Condition::Positive, self.p, table, used)
+            .or_else(|| first_of(Condition::Negative, self.n, table, used))
+            .or_else(|| first_of(Condition::Unused, self.names, table, used))
     }
 }
 
 // Whether a condition is met: a fact is in the closure where the table has a number for it.
+#[tactic(auto, unfolding(crate::specs::Conditions::condition_of, crate::specs::Conditions::KnownIn))]
 pub fn meets(table: &[u16], used: &[u8], c: Condition) -> bool
     requires { KnownIn (condition_of c) × (4096 ≤ length table.now) }
     ensures { result ≡ met (numbered table.now) (names_in used.now) (condition_of c) }
@@ -70,73 +81,50 @@ pub fn meets(table: &[u16], used: &[u8], c: Condition) -> bool
     }
 }
 
-// The condition that a number of a list of the kind is.
-fn of_kind(kind: Kind, number: usize) -> Condition
-    ensures { condition_of result ≡ of_kind_lem kind number }
+// The first unmet condition of one list, where `asked` says which condition each of its numbers is.
+pub fn first_of<F: Fn(usize) -> Condition>(
+    asked: F,
+    list: &[u8],
+    table: &[u16],
+    used: &[u8],
+) -> Option<Condition>
+    requires { F.IsAlwaysCallable asked × ((f : ℕ) (c : _) → f ∈ words list.now → F.post asked f c
+        → KnownIn (condition_of c)) × (4096 ≤ length table.now) }
+    ensures { (k : ℕ → Asked) → ((f : ℕ) (c : _) → f ∈ words list.now → F.post asked f c → condition_of c ≡ k f)
+        → unmet_in result ≡ unmet (numbered table.now) (names_in used.now) (map k (words list.now)) }
 {
-    match kind {
-        Kind::Positive => Condition::Positive(number),
-        Kind::Negative => Condition::Negative(number),
-        Kind::Unused => Condition::Unused(number),
-    }
-}
-
-// The first unmet condition of one list, whose kind is known before the loop.
-pub fn first_of(kind: Kind, list: &[u8], table: &[u16], used: &[u8]) -> Unmet
-    requires { KnownList kind list.now × (4096 ≤ length table.now) }
-    ensures { unmet_in result ≡ unmet (numbered table.now) (names_in used.now)
-        (map (of_kind_lem kind) (words list.now)) }
-{
-    let count = list.len() / 2;
-    let mut i = 0;
-    while i < count {
-        let c = of_kind(kind, records::word_at(list, 2 * i));
+    for f in Numbers(list) {
+        let c = asked(f);
         if !meets(table, used, c) {
-            return Unmet::At(c);
+            return Some(c);
         }
-        i += 1;
     }
-    Unmet::Nowhere
+    None
 }
 
-// The first unmet condition of the lists.
-pub fn first_unmet(p: &[u8], n: &[u8], names: &[u8], table: &[u16], used: &[u8]) -> Unmet
-    requires { Known p.now × Known n.now × (4096 ≤ length table.now) }
-    ensures { unmet_in result ≡ unmet (numbered table.now) (names_in used.now)
-        (conditions (words p.now) (words n.now) (words names.now)) }
-{
-    match first_of(Kind::Positive, p, table, used) {
-        Unmet::At(c) => Unmet::At(c),
-        Unmet::Nowhere => match first_of(Kind::Negative, n, table, used) {
-            Unmet::At(c) => Unmet::At(c),
-            Unmet::Nowhere => first_of(Kind::Unused, names, table, used),
-        },
-    }
-}
-
-// The number of a step that can't fire for a condition: 10, or 13 for a used name.
-pub fn number_of(c: Condition) -> u8
-    ensures { result ≡ stop_number (condition_of c) }
+// Why a step can't fire for a condition: it is blocked, or a name is used.
+#[tactic(auto, unfolding(crate::specs::Conditions::condition_of, crate::specs::Conditions::stop_number))]
+pub fn refusal_of(c: Condition) -> Refusal
+    ensures { refusal_number result ≡ stop_number (condition_of c) }
 {
     match c {
-        Condition::Positive(_) => 10,
-        Condition::Negative(_) => 10,
-        Condition::Unused(_) => 13,
+        Condition::Positive(_) | Condition::Negative(_) => Refusal::Blocked,
+        Condition::Unused(_) => Refusal::Used,
     }
 }
 
 // A condition's fact, or its name.
+#[tactic(auto, unfolding(crate::specs::Conditions::condition_of, crate::specs::Conditions::fact_in))]
 pub fn fact_of(c: Condition) -> usize
     ensures { result ≡ fact_in (condition_of c) }
 {
     match c {
-        Condition::Positive(f) => f,
-        Condition::Negative(f) => f,
-        Condition::Unused(name) => name,
+        Condition::Positive(n) | Condition::Negative(n) | Condition::Unused(n) => n,
     }
 }
 
-// Its kind: 1 positive, 2 negative; that of a name has none.
+// Its kind: 1 positive, 2 negative; that of a name has none. C is handed these numbers.
+#[tactic(auto, unfolding(crate::specs::Conditions::condition_of, crate::specs::Conditions::kind_in))]
 pub fn kind_of(c: Condition) -> u8
     ensures { result ≡ kind_in (condition_of c) }
 {
@@ -147,7 +135,8 @@ pub fn kind_of(c: Condition) -> u8
     }
 }
 
-// The round in which a negative condition's fact arose; the others have none.
+// The round in which a negative condition's fact arose; the others have none, which C is handed as 65,535.
+#[tactic(auto, unfolding(crate::specs::Conditions::condition_of, crate::specs::Conditions::KnownIn, crate::specs::Conditions::round_in))]
 pub fn round_of(c: Condition, table: &[u16]) -> usize
     requires { KnownIn (condition_of c) × (4096 ≤ length table.now) }
     ensures { result ≡ round_in (λ f. get_or table.now f 0) (condition_of c) }

@@ -12,6 +12,8 @@ ghost use Rattle.files.specs.Known.{KnownBelow, Known, KnownNames};
 ghost use Rattle.stepping.specs.Conditions.{names_in};
 ghost use Rattle.stepping.specs.Stepping.{Holds};
 
+use records::Numbers;
+
 pub mod conditions;
 
 // Adds every number of the bytes to the set in the first `width` bytes.
@@ -20,10 +22,8 @@ pub fn add_all(list: &[u8], set: &mut [u8], width: u32)
     ensures { Holds width set.old set.new
         (λ g. within width set.old g || listed (words list.now) g) }
 {
-    let mut at = 0;
-    while 2 <= list.len() - at {
-        facts::add(set, width, records::word_at(list, at));
-        at += 2;
+    for number in Numbers(list) {
+        facts::add(set, width, number);
     }
 }
 
@@ -33,13 +33,10 @@ pub fn remove_all(list: &[u8], persistent: &[u8], state: &mut [u8])
     ensures { Holds 512 state.old state.new (λ g. members state.old g
         && not (listed (words list.now) g && not (listed (words persistent.now) g))) }
 {
-    let mut at = 0;
-    while 2 <= list.len() - at {
-        let fact = records::word_at(list, at);
+    for fact in Numbers(list) {
         if !lists::has(persistent, fact) {
             facts::remove(state, 512, fact);
         }
-        at += 2;
     }
 }
 

@@ -1,0 +1,38 @@
+-- A blocked step ends the run, or what is asked of the last state once it is closed.
+use Rattle.std.proofs.Common.{arith}
+use Rattle.facts.specs.Facts.{members}
+use Rattle.reaching.proofs.Stepwise.{rounds-few}
+use Rattle.files.proofs.Traces.{pair_shape, pair_few}
+use Rattle.running.proofs.Ends.{ends-blocked, ends_asked}
+use Rattle.running.proofs.finish.Goals as goal
+
+pub close_judged-rounds-requires : goal.close_judged-rounds-requires
+close_judged-rounds-requires c = (pair_shape _ _ c.requires.0.fine, c.requires.0.entries, c.requires.3)
+
+pub ask-requires : goal.ask-requires
+ask-requires c = (
+  c.requires.0.fine,
+  omega (arith, c.close_judged-rounds.ensures.filled.as_long, c.requires.0.entries),
+  c.requires.2,
+)
+
+pub overflow_add-result : goal.overflow_add-result
+overflow_add-result c =
+    let m = c.args.model.now in
+    let t = c.args.trace.now in
+    omega (
+      arith,
+      c.requires.1.bound,
+      c.requires.1.within,
+      pair_few m t c.requires.0.fine,
+      c.close_judged-rounds.ensures.number,
+      rounds-few m (pair_shape m t c.requires.0.fine) (members c.args.state.now),
+    )
+
+pub returns-in-Some : goal.returns-in-Some
+returns-in-Some c = ends-blocked _ _ c.requires.1 _ c.in-Some.is
+
+pub returns-in-None : goal.returns-in-None
+returns-in-None c =
+    ends_asked _ _ c.requires.1 (pair_shape _ _ c.requires.0.fine) c.in-None.is c.close_judged-rounds.ensures
+    c.ask.ensures

@@ -2,12 +2,11 @@
 use Prim.Native.Nat.{ℕ, ◌≤◌, ◌<◌}
 use mathlib.Core.Path.{◌≡◌, refl, sym, ap, ◌∙◌}
 use mathlib.Core.List.{List, [], ◌∷◌}
-use mathlib.Core.Option.{Option, none, some}
-use native.Mathlib.Omega.{arith}
+use mathlib.Core.Option.{Option}
 use borrow.Author.Tests.{lt-ltb, le-ltb}
 use lib.ListN.{length, set}
 use Rattle.std.specs.Prelude.{Result, Ok, Err}
-use Rattle.records.specs.Refusals.{Fault, code, answer_or}
+use Rattle.records.specs.Refusals.{Fault, answer_or}
 use Rattle.files.specs.Files.{fact_count, model_of_lem, model_fault}
 use Rattle.files.specs.Answers.{counts_of}
 use Rattle.files.specs.declared.Counts.{Counts}
@@ -76,7 +75,7 @@ module _ (m state table : List ℕ) where
       (closed : closing.Closes m state table table' r) where
     -- the rounds are written
     pub some-rounds : r ≡ Ok n → ClosesOut (shorter out 1) m state table table' out (set out 0 n) 0
-    unfolding shorter ClosesOut code unless_refused
+    unfolding shorter ClosesOut unless_refused
     some-rounds told =
         let (fine, same) = answer-ok _ _ _ (sym told ∙ closed.answers) in
         rw (le-ltb _ _ room)
@@ -88,7 +87,7 @@ module _ (m state table : List ℕ) where
 
     -- a refusal writes nothing
     pub refused : r ≡ Err n → ClosesOut (shorter out 1) m state table table' out out n
-    unfolding shorter ClosesOut code unless_refused
+    unfolding shorter ClosesOut unless_refused
     refused told =
         let number = answer-err _ _ _ (sym told ∙ closed.answers) in
         rw (le-ltb _ _ room)
@@ -112,7 +111,7 @@ module _ (m state table ix : List ℕ) where
     -- they are written
     pub some-crossings : (w : Worked) → r ≡ Ok w
         → ClosesIndexedOut (shorter out 2) m state table table' ix ix' out (set (set out 0 w.rounds) 1 w.crossings) 0
-    unfolding shorter ClosesIndexedOut code unless_refused
+    unfolding shorter ClosesIndexedOut unless_refused
     some-crossings w told =
         let (fine, same) = answer-ok _ _ _ (sym told ∙ closed.answers) in
         rw (le-ltb _ _ room)
@@ -128,7 +127,7 @@ module _ (m state table ix : List ℕ) where
     -- a refusal writes nothing
     pub crossings-refused : (n : ℕ) → r ≡ Err n
         → ClosesIndexedOut (shorter out 2) m state table table' ix ix' out out n
-    unfolding shorter ClosesIndexedOut code unless_refused
+    unfolding shorter ClosesIndexedOut unless_refused
     crossings-refused n told =
         let number = answer-err _ _ _ (sym told ∙ closed.answers) in
         rw (le-ltb _ _ room)
@@ -148,7 +147,7 @@ module _ (m t : List ℕ) (before : Lent) (ix list : List ℕ) where
     -- the count is written
     pub some-count : r ≡ Ok n
         → RulesOut (shorter out 1) m t before after ix ix' list list' out (set out 0 n) 0
-    unfolding shorter RulesOut code unless_refused
+    unfolding shorter RulesOut unless_refused
     some-count told =
         let (fine, same) = answer-ok _ _ _ (sym told ∙ fired.answers) in
         rw (le-ltb _ _ room)
@@ -162,7 +161,7 @@ module _ (m t : List ℕ) (before : Lent) (ix list : List ℕ) where
 
     -- a refusal writes nothing
     pub rules-refused : r ≡ Err n → RulesOut (shorter out 1) m t before after ix ix' list list' out out n
-    unfolding shorter RulesOut code unless_refused
+    unfolding shorter RulesOut unless_refused
     rules-refused told =
         let number = answer-err _ _ _ (sym told ∙ fired.answers) in
         rw (le-ltb _ _ room)
@@ -182,12 +181,12 @@ module _ (m t : List ℕ) (g : ℕ) (before : Lent) (ix : List ℕ) where
   unfolding shorter HoldsOut
   no_round out short = rw (lt-ltb _ _ short) (refl, refl, refl, refl)
 
-  module _ (after : Lent) (ix' out : List ℕ) (r : Result Held ℕ) (n : ℕ) (room : 2 ≤ length out)
+  module _ (after : Lent) (ix' out : List ℕ) (r : Result Held ℕ) (room : 2 ≤ length out)
       (asked : holding.HoldsIn m t g before after ix ix' r) where
     -- they are written
     pub some-round : (h : Held) → r ≡ Ok h
         → HoldsOut (shorter out 2) m t g before after ix ix' out (set (set out 0 h.round) 1 h.rounds) 0
-    unfolding shorter HoldsOut code unless_refused
+    unfolding shorter HoldsOut unless_refused
     some-round h told =
         let (fine, same) = answer-ok _ _ _ (sym told ∙ asked.answers) in
         rw (le-ltb _ _ room)
@@ -201,9 +200,9 @@ module _ (m t : List ℕ) (g : ℕ) (before : Lent) (ix : List ℕ) where
         })
 
     -- a refusal writes nothing there
-    pub round-refused : r ≡ Err n → HoldsOut (shorter out 2) m t g before after ix ix' out out n
-    unfolding shorter HoldsOut code unless_refused
-    round-refused told =
+    pub round-refused : (n : ℕ) → r ≡ Err n → HoldsOut (shorter out 2) m t g before after ix ix' out out n
+    unfolding shorter HoldsOut unless_refused
+    round-refused n told =
         let number = answer-err _ _ _ (sym told ∙ asked.answers) in
         rw (le-ltb _ _ room)
         (record { number = rw number; values = rw number; buffers = asked.buffers; index = asked.index })
@@ -221,14 +220,14 @@ module _ (m out : List ℕ) where
     -- they are written
     pub some-figures : (n : Counts) (F : ℕ) (out' : List ℕ) → r ≡ Ok n → F ≡ fact_count m
         → out' ≡ over (F ∷ n.clauses ∷ n.rules ∷ n.goals ∷ []) out → CountsOut (shorter out 4) m out out' 0
-    unfolding shorter CountsOut code model_refusal unless_refused figures counts_of model_of_lem
+    unfolding shorter CountsOut model_refusal unless_refused figures counts_of model_of_lem
     some-figures n F out' told facts written =
         let (fine, same) = answer-ok _ _ _ (sym told ∙ is) in
-        rw (le-ltb _ _ room) (record { number = rw fine; figures = rw fine (rw (facts, ← same) at written) })
+        rw (le-ltb _ _ room) (record { number = rw fine; figures = rw fine (rw (facts, same) at written) })
 
     -- a refusal writes nothing
     pub no_model : (f : Fault) → r ≡ Err f → CountsOut (shorter out 4) m out out f.number
-    unfolding shorter CountsOut code model_refusal unless_refused
+    unfolding shorter CountsOut model_refusal unless_refused
     no_model f told =
         let number = answer-err _ _ _ (sym told ∙ is) in
         rw (le-ltb _ _ room) (record { number = rw number; figures = rw number })

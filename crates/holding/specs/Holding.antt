@@ -47,6 +47,16 @@ unfoldable pub stopped : Option ℕ → Option Condition → Option ℕ
 unfolding ◌or_else◌ stop_number
 stopped refused c = refused or_else map stop_number c
 
+-- ---- the answer
+
+-- "Answer held, with its round number, or absent, as full closing would.": the round number, 65,535 where the fact is
+-- absent, and the rounds run; or a refusal's number (`answer_or` below)
+abbrev pub shown_of : List ℕ → List ℕ → ℕ → Held
+shown_of m t g = record {
+  round = round_number (model_of_lem m).clauses (outcome m t).state.facts g;
+  rounds = rounds_for (model_of_lem m).clauses (outcome m t).state.facts g;
+}
+
 -- ---- the buffers
 
 -- "The round table shows facts up to the last round run and 65,535 elsewhere ..; the state is left as by the check.",
@@ -70,14 +80,9 @@ Buffers none none m o g before after = LeftFor m o g before after
 -- the answer, and every byte and entry of what is lent, after what refuses it
 pub record HoldsBy (refused : Option ℕ) (m t : List ℕ) (g : ℕ) (before after : Lent) (ix ix' : List ℕ)
     (r : Result Held ℕ) : Type 0 where
-  -- "Answer held, with its round number, or absent, as full closing would.": the round number, 65,535 where the fact is
-  -- absent, and the rounds run; or a refusal's number
   pub answers : r
       ≡ answer_or (stopped refused (blocked_by (outcome m t).ending))
-      (record {
-        round = round_number (model_of_lem m).clauses (outcome m t).state.facts g;
-        rounds = rounds_for (model_of_lem m).clauses (outcome m t).state.facts g;
-      })
+      (shown_of m t g)
   pub buffers : Buffers refused (blocked_by (outcome m t).ending) (model_of_lem m) (outcome m t) g before after
   pub index : Index refused (model_of_lem m).clauses ix ix'
 
@@ -101,8 +106,5 @@ pub record ShownUpTo (cs : List Clause) (S : Facts) (n f entry : ℕ) : Type 0 w
 pub record Asks (m t : List ℕ) (g : ℕ) (before after : Lent) (r : Result Held ℕ) : Type 0 where
   pub answers : r
       ≡ answer_or (stopped none (blocked_by (outcome m t).ending))
-      (record {
-        round = round_number (model_of_lem m).clauses (outcome m t).state.facts g;
-        rounds = rounds_for (model_of_lem m).clauses (outcome m t).state.facts g;
-      })
+      (shown_of m t g)
   pub buffers : Buffers none (blocked_by (outcome m t).ending) (model_of_lem m) (outcome m t) g before after

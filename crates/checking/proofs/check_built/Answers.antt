@@ -1,6 +1,5 @@
 -- Room for the index, then the trace's faults, then the run.
-use mathlib.Core.Path.{◌≡◌, sym, ap, ◌∙◌}
-use mathlib.Core.Bool.{false}
+use mathlib.Core.Path.{sym, ap, ◌∙◌}
 use Rattle.files.specs.Answers.{counts_of}
 use Rattle.files.specs.declared.Counts.{Counts}
 use Rattle.files.proofs.Answers.{blamed_ok, blames_err, steps-counted}

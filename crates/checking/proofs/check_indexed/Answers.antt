@@ -1,7 +1,6 @@
 -- Room, then the files' faults, then what is built.
 use mathlib.Core.Path.{sym, ◌∙◌}
 use Rattle.files.proofs.Answers.{blamed_ok, blames_err}
-use Rattle.reaching.specs.Reaching.{Lent}
 use Rattle.checking.proofs.Indexed.{indexed-room, indexed_files}
 use Rattle.checking.proofs.check_indexed.Goals as goal
 

@@ -11,11 +11,11 @@ returns-then-out-lt2 c =
 
 pub returns-in-Ok : goal.returns-in-Ok
 returns-in-Ok c =
-    some-round c.args.model.now c.args.trace.now c.args.fact _ c.args.index.now _ _ c.args.out.now _ _
+    some-round c.args.model.now c.args.trace.now c.args.fact _ c.args.index.now _ _ c.args.out.now _
     (omega arith) c.holds.ensures _ (ap numbered c.in-Ok.is)
 
 pub returns-in-Err : goal.returns-in-Err
 returns-in-Err c =
     rw (c.number.ensures)
-    (round-refused c.args.model.now c.args.trace.now c.args.fact _ c.args.index.now _ _ c.args.out.now _ _
-    (omega arith) c.holds.ensures (ap numbered c.in-Err.is))
+    (round-refused c.args.model.now c.args.trace.now c.args.fact _ c.args.index.now _ _ c.args.out.now _
+    (omega arith) c.holds.ensures _ (ap numbered c.in-Err.is))

@@ -1,6 +1,5 @@
 -- Room for the list and the index, then the trace's faults, then the run and its rules.
-use mathlib.Core.Path.{◌≡◌, sym, ap, ◌∙◌}
-use mathlib.Core.Bool.{◌||◌, false}
+use mathlib.Core.Path.{sym, ap, ◌∙◌}
 use native.Mathlib.Omega.{arith}
 use borrow.Author.Tests.{ltb-false}
 use Rattle.std.proofs.lemmas.Result.{err_from_is_err_and}
@@ -9,7 +8,6 @@ use Rattle.files.specs.Answers.{counts_of}
 use Rattle.files.specs.declared.Counts.{Counts}
 use Rattle.files.proofs.Answers.{blamed_ok, blames_err, steps-counted}
 use Rattle.files.proofs.Traces.{files_shape, stages_fine}
-use Rattle.closing.specs.Closing.{no_places_lem}
 use Rattle.reaching.specs.Reaching.{Lent}
 use Rattle.checking.proofs.Refusals.{spacious}
 use Rattle.firing.specs.Firing.{list_short}

@@ -1,5 +1,5 @@
 -- The steps, then the last state closed for the fact.
-use Rattle.std.proofs.Common.{arith, ◌∙◌}
+use Rattle.std.proofs.Common.{arith}
 use Rattle.files.proofs.Traces.{pair_shape}
 use Rattle.closing.specs.Closing.Way.{indexed}
 use Rattle.reaching.specs.Reaching.{aimed}

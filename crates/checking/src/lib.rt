@@ -3,19 +3,21 @@
 #![tactic(auto)]
 
 ghost use Rattle.std.specs.Prelude.{◌≡◌};
+ghost use Rattle.records.specs.Refusals.{refusal_number};
 ghost use Rattle.checking.specs.Verdict.{Checked, CheckedIndexed, refused, no_space_lem};
 ghost use Rattle.running.specs.Outcomes.{nothing};
 ghost use Rattle.checking.specs.Passing.{Passed};
 
-use files::{Counts, Pair, Part, both};
+use files::{Counts, Part, both};
+use records::Refusal;
 use running::Verdict;
 
-// A refusal: its number, and the part at fault.
-fn refuse(number: u8, part: Part) -> Verdict
-    ensures { result ≡ refused number part }
+// The verdict of a refusal, with the part at fault.
+fn refuse(refusal: Refusal, part: Part) -> Verdict
+    ensures { result ≡ refused (refusal_number refusal) part }
 {
     Verdict {
-        number,
+        number: refusal.number(),
         step: 0,
         fact: 65535,
         rounds: 0,
@@ -35,7 +37,7 @@ fn refuse_room() -> Verdict
         start: 0,
         size: 0,
     };
-    refuse(1, at)
+    refuse(Refusal::Room, at)
 }
 
 // Whether what is lent is too short for a state, its round numbers or its names.
@@ -63,8 +65,8 @@ pub fn check(
         return refuse_room();
     }
     match both::judge_pair(model, trace) {
-        Pair::Fault(number, part) => refuse(number, part),
-        Pair::Fine(_) => running::run_swept(model, trace, state, table, names),
+        Ok(_) => running::run_swept(model, trace, state, table, names),
+        Err(refused) => refuse(refused.refusal, refused.part),
     }
 }
 
@@ -90,8 +92,8 @@ fn check_built(
         return refuse_room();
     }
     match both::judge_steps(trace, counts) {
-        Pair::Fault(number, part) => refuse(number, part),
-        Pair::Fine(_) => running::run_indexed(model, trace, state, table, names, index),
+        Ok(_) => running::run_indexed(model, trace, state, table, names, index),
+        Err(refused) => refuse(refused.refusal, refused.part),
     }
 }
 
@@ -115,7 +117,7 @@ pub fn check_indexed(
         return refuse_room();
     }
     match both::judge_files(model, trace) {
-        Pair::Fault(number, part) => refuse(number, part),
-        Pair::Fine(counts) => check_built(model, trace, counts, state, table, names, index),
+        Ok(counts) => check_built(model, trace, counts, state, table, names, index),
+        Err(refused) => refuse(refused.refusal, refused.part),
     }
 }

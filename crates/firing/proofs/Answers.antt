@@ -22,31 +22,31 @@ use Rattle.stepping.specs.Conditions.{names_in}
 use Rattle.reaching.specs.Reaching.{Lent}
 use Rattle.checking.specs.Verdict.{no_space_lem}
 use Rattle.running.specs.Outcomes.{outcome, Left}
-use Rattle.firing.specs.Firing.{fires_by, numbers_of, firing, list_short, rules_refusal, answer, numbers_in}
+use Rattle.firing.specs.Firing.{fires_by, numbers_of, firing, list_short, rules_refusal, numbers_in}
 use Rattle.firing.specs.Firing.{LeftAsChecked, FiresIn, Numbered}
-use Rattle.firing.specs.declared.Fired.{Fired}
+use Rattle.std.specs.Prelude.{Ok, Err}
 
 module _ (m t : List ℕ) (l : Lent) (ix list : List ℕ) where
   -- a refusal changes nothing
-  refused : (k : ℕ) → rules_refusal m t l ix list ≡ some k → FiresIn m t l l ix ix list list (Fired.Refused k)
-  unfolding answer numbers_in LeftAsChecked Index
+  refused : (k : ℕ) → rules_refusal m t l ix list ≡ some k → FiresIn m t l l ix ix list list (Err k)
+  unfolding numbers_in LeftAsChecked Index
   refused k e = rw e (record { answers = refl; numbers = refl; buffers = refl; index = refl })
 
   -- without room
-  pub rules-room : no_space_lem l ≡ true → FiresIn m t l l ix ix list list (Fired.Refused 1)
+  pub rules-room : no_space_lem l ≡ true → FiresIn m t l l ix ix list list (Err 1)
   unfolding rules_refusal given ◌or_else◌
   rules-room e = refused 1 (rw e)
 
   module _ (room : no_space_lem l ≡ false) where
     -- for a fault of sizes, versions or the model
     pub rules_files : {k : ℕ} {p : Part} → Blames (files_fault m t) k p
-        → FiresIn m t l l ix ix list list (Fired.Refused k)
+        → FiresIn m t l l ix ix list list (Err k)
     unfolding rules_refusal given ◌or_else◌
     rules_files b = rw b.number_is (refused _ (rw (room, b.is)))
 
     module _ (files : files_fault m t ≡ none) where
       -- without room for the list or the index
-      pub rules-short : (list_short m list || no_places_lem m ix) ≡ true → FiresIn m t l l ix ix list list (Fired.Refused 1)
+      pub rules-short : (list_short m list || no_places_lem m ix) ≡ true → FiresIn m t l l ix ix list list (Err 1)
       unfolding rules_refusal given ◌or_else◌
       rules-short e = refused 1 (rw (room, files, e))
 
@@ -54,7 +54,7 @@ module _ (m t : List ℕ) (l : Lent) (ix list : List ℕ) where
         -- for a fault of the trace
         pub rules-steps : {k : ℕ} {p : Part}
             → Blames (steps_fault (length (aims (model_of_lem m))) (length (model_of_lem m).rules) t) k p
-            → FiresIn m t l l ix ix list list (Fired.Refused k)
+            → FiresIn m t l l ix ix list list (Err k)
         unfolding rules_refusal given ◌or_else◌
         rules-steps b = rw b.number_is (refused _ (rw (room, files, enough, b.is)))
 
@@ -62,13 +62,13 @@ module _ (m t : List ℕ) (l : Lent) (ix list : List ℕ) where
         pub rules-ran : steps_fault (length (aims (model_of_lem m))) (length (model_of_lem m).rules) t ≡ none
             → {after : Lent} {ix' list' : List ℕ} {n : ℕ} → Left (model_of_lem m) (outcome m t) l after
             → IndexHolds (model_of_lem m).clauses ix ix' → Numbered (firing (model_of_lem m) (outcome m t).state) list list' n
-            → FiresIn m t l after ix ix' list list' (Fired.Count n)
-        unfolding answer numbers_in LeftAsChecked Index rules_refusal given ◌or_else◌
+            → FiresIn m t l after ix ix' list list' (Ok n)
+        unfolding numbers_in LeftAsChecked Index rules_refusal given ◌or_else◌
         rules-ran steps left holds listed =
             let e : rules_refusal m t l ix list ≡ none = rw (room, files, enough, steps) in
             rw e
             (record {
-              answers = ap Fired.Count listed.count;
+              answers = ap Ok listed.count;
               numbers = listed.entries;
               buffers = left;
               index = holds;

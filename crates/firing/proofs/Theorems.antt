@@ -35,7 +35,7 @@ use Rattle.checking.proofs.Refusals.{either_number}
 use Rattle.checking.proofs.Theorems.{LentBytes, buffers_unique}
 use Rattle.firing.specs.Firing.{fires_by, numbers_of, firing, IsFiring, list_short, rules_refusal}
 use Rattle.firing.specs.Firing.{LeftAsChecked, FiresIn}
-use Rattle.firing.specs.declared.Fired.{Fired}
+use Rattle.std.specs.Prelude.{Result}
 
 -- ---- the numbers of the entries that pass a test
 
@@ -315,7 +315,7 @@ module _ (m t : List ℕ) (before : Lent) {a b : Lent} (bytes-a : LentBytes a) (
 
   -- Two results that meet the promise for the same files and what is lent are equal: the answer, and every byte and
   -- entry.
-  pub rules_unique : (ix ia ib list la lb : List ℕ) (r s : Fired) → FiresIn m t before a ix ia list la r
+  pub rules_unique : (ix ia ib list la lb : List ℕ) (r s : Result ℕ ℕ) → FiresIn m t before a ix ia list la r
       → FiresIn m t before b ix ib list lb s → (r ≡ s) × (a ≡ b) × (ia ≡ ib) × (la ≡ lb)
   rules_unique ix ia ib list la lb r s x y =
       let refused = rules_refusal m t before ix list in (

@@ -7,6 +7,8 @@ use Rattle.meaning.specs.Model.{Rule, Model, State, aims}
 use Rattle.meaning.specs.Rounds.{closure}
 use Rattle.meaning.specs.Run.{unmet, conditions}
 use Rattle.meaning.specs.Published.{Transition}
+use Rattle.std.specs.Prelude.{Result}
+use Rattle.records.specs.Refusals.{answer_or}
 use Rattle.records.specs.Records.{given, ◌or_else◌}
 use Rattle.files.specs.Files.{model_of_lem, files_fault, steps_fault}
 use Rattle.files.specs.Answers.{blamed_number}
@@ -14,7 +16,6 @@ use Rattle.closing.specs.Closing.{Index, no_places_lem}
 use Rattle.reaching.specs.Reaching.{Lent}
 use Rattle.checking.specs.Verdict.{no_space_lem}
 use Rattle.running.specs.Outcomes.{outcome, Left}
-use Rattle.firing.specs.declared.Fired.{Fired}
 
 -- ---- the rules that fire
 
@@ -57,11 +58,6 @@ rules_refusal m t l ix list =
 
 -- ---- what is promised
 
--- "Give the count", or a refusal's number
-unfoldable pub answer : Option ℕ → ℕ → Fired
-answer none n = Fired.Count n
-answer (some k) n = Fired.Refused k
-
 -- "Entries after the answer stay untouched"; a refusal: "nothing written"
 unfoldable pub numbers_in : Option ℕ → List ℕ → List ℕ → List ℕ
 numbers_in none ks list = ks ++ drop (length ks) list
@@ -75,14 +71,16 @@ LeftAsChecked (some k) m t before after = after ≡ before
 
 -- the answer, every entry of the list, and all else that is lent, after what refuses it
 pub record Fires (refused : Option ℕ) (m t : List ℕ) (before after : Lent) (ix ix' list list' : List ℕ)
-    (r : Fired) : Type 0 where
-  pub answers : r ≡ answer refused (length (firing (model_of_lem m) (outcome m t).state))
+    (r : Result ℕ ℕ) : Type 0 where
+  -- "Give the count", or a refusal's number
+  pub answers : r ≡ answer_or refused (length (firing (model_of_lem m) (outcome m t).state))
   pub numbers : list' ≡ numbers_in refused (firing (model_of_lem m) (outcome m t).state) list
   pub buffers : LeftAsChecked refused m t before after
   pub index : Index refused (model_of_lem m).clauses ix ix'
 
 -- what is promised of two files and what is lent
-abbrev pub FiresIn : List ℕ → List ℕ → Lent → Lent → List ℕ → List ℕ → List ℕ → List ℕ → Fired → Type 0
+abbrev pub FiresIn : List ℕ → List ℕ → Lent → Lent → List ℕ → List ℕ → List ℕ → List ℕ
+    → Result ℕ ℕ → Type 0
 FiresIn m t before after ix ix' list list' r =
     Fires (rules_refusal m t before ix list) m t before after ix ix' list list' r
 

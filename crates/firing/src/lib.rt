@@ -7,6 +7,7 @@ ghost use Rattle.std.specs.Prelude.{◌≤◌, ◌≡◌, length, get_or};
 ghost use Rattle.std.proofs.Math.Option.{none};
 ghost use Rattle.sets.specs.Sets.{◌∈◌};
 ghost use Rattle.records.specs.Records.{records};
+ghost use Rattle.records.specs.Refusals.{numbered};
 ghost use Rattle.sections.specs.declared.Role.{Role};
 ghost use Rattle.files.specs.Files.{section_of, rule_in, model_of_lem, shape_fault};
 ghost use Rattle.closing.specs.Closing.{numbered};
@@ -14,17 +15,11 @@ ghost use Rattle.stepping.specs.Conditions.{names_in};
 ghost use Rattle.checking.specs.Passing.{Passed};
 ghost use Rattle.firing.specs.Firing.{fires_by, numbers_of, Numbered, FiresIn};
 
-use files::{Counts, Pair, both, held};
+use files::{Counts, both, held};
+use records::Refusal;
 use sections::Role;
 use stepping::conditions;
 use stepping::conditions::Condition;
-
-// How many rules fire, or a refusal's number.
-#[derive(Clone, Copy)]
-pub enum Fired {
-    Count(usize),
-    Refused(u8),
-}
 
 // Whether the rule that a record is fires, by the round numbers and the used names of a state. A list is cut only where
 // those before it are met.
@@ -83,29 +78,25 @@ fn rules_built(
     names: &mut [u8],
     index: &mut [u16],
     list: &mut [u16],
-) -> Fired
+) -> Result<usize, Refusal>
     requires { Passed model.now trace.now (record { state = state.now; table = table.old; names = names.old })
         counts }
     ensures { FiresIn model.now trace.now
         (record { state = state.entry.now; table = table.old; names = names.old })
         (record { state = state.exit.now; table = table.new; names = names.new })
-        index.old index.new list.old list.new result }
+        index.old index.new list.old list.new (numbered result) }
 {
     let short = closing::no_places(model, counts.clauses, index);
     if (list.len() < counts.rules) | short {
-        return Fired::Refused(1);
+        return Err(Refusal::Room);
     }
-    match both::judge_steps(trace, counts) {
-        Pair::Fault(number, _) => Fired::Refused(number),
-        Pair::Fine(_) => {
-            running::run_indexed(model, trace, state, table, names, index);
-            Fired::Count(list_rules(model, table, names, list))
-        }
-    }
+    both::judge_steps(trace, counts)?;
+    running::run_indexed(model, trace, state, table, names, index);
+    Ok(list_rules(model, table, names, list))
 }
 
-// The count and, in the list, the numbers of all rules that fire in the last state reached, ascending; or a refusal's
-// number, with nothing changed. State, table and names are left as by the check.
+// The count and, in the list, the numbers of all rules that fire in the last state reached, ascending; or a
+// refusal, with nothing changed. State, table and names are left as by the check.
 pub fn rules(
     model: &[u8],
     trace: &[u8],
@@ -114,19 +105,15 @@ pub fn rules(
     names: &mut [u8],
     index: &mut [u16],
     list: &mut [u16],
-) -> Fired
+) -> Result<usize, Refusal>
     ensures { FiresIn model.now trace.now
         (record { state = state.entry.now; table = table.old; names = names.old })
         (record { state = state.exit.now; table = table.new; names = names.new })
-        index.old index.new list.old list.new result }
+        index.old index.new list.old list.new (numbered result) }
 {
     if checking::no_space(state, table, names) {
-        return Fired::Refused(1);
+        return Err(Refusal::Room);
     }
-    match both::judge_files(model, trace) {
-        Pair::Fault(number, _) => Fired::Refused(number),
-        Pair::Fine(counts) => {
-            rules_built(model, trace, counts, state, table, names, index, list)
-        }
-    }
+    let counts = both::judge_files(model, trace)?;
+    rules_built(model, trace, counts, state, table, names, index, list)
 }

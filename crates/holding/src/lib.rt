@@ -12,14 +12,15 @@ ghost use Rattle.reaching.specs.Reaching.{Ready};
 ghost use Rattle.checking.specs.Passing.{Passed};
 ghost use Rattle.holding.specs.Holding.{Asks, HoldsIn};
 
-use files::{Counts, Pair, both, held};
+use files::{Counts, both, held};
+use records::Refusal;
 use stepping::conditions;
 
-// The fact's round number, 65,535 where it is absent, and the rounds run on the last state; or a refusal's number.
+// The fact's round number, 65,535 where it is absent, and the rounds run on the last state.
 #[derive(Clone, Copy)]
-pub enum Answer {
-    Round(usize, usize),
-    Refused(u8),
+pub struct Held {
+    pub round: usize,
+    pub rounds: usize,
 }
 
 // Runs a judged pair's steps by an index of the model's clauses, and closes the last state for the fact asked for.
@@ -33,13 +34,13 @@ fn run_for(
     index: &[u16],
     ends: &[u16],
     starts: &[u16],
-) -> Answer
+) -> Result<Held, Refusal>
     requires { Ready model.now trace.now (record { state = state.now; table = table.old; names = names.old })
         × Listed (model_of_lem model.now).clauses index.now ends.now
         × Placed (section_of model.now Role.Clauses) starts.now × (asked < 4096) }
     ensures { Asks model.now trace.now asked
         (record { state = state.entry.now; table = table.old; names = names.old })
-        (record { state = state.exit.now; table = table.new; names = names.new }) result }
+        (record { state = state.exit.now; table = table.new; names = names.new }) (numbered result) }
 {
     let codes = reaching::goal_codes(model, trace);
     let mut kept = [0u8; 32];
@@ -64,12 +65,12 @@ fn run_built(
     table: &mut [u16],
     names: &mut [u8],
     index: &mut [u16],
-) -> Answer
+) -> Result<Held, Refusal>
     requires { Ready model.now trace.now (record { state = state.now; table = table.old; names = names.old })
         × (no_places_lem model.now index.old ≡ false) × (asked < 4096) }
     ensures { Asks model.now trace.now asked
         (record { state = state.entry.now; table = table.old; names = names.old })
-        (record { state = state.exit.now; table = table.new; names = names.new }) result
+        (record { state = state.exit.now; table = table.new; names = names.new }) (numbered result)
         × IndexHolds (model_of_lem model.now).clauses index.old index.new }
 {
     let mut ends = [0u16; 4097];
@@ -99,22 +100,22 @@ fn holds_passed(
     table: &mut [u16],
     names: &mut [u8],
     index: &mut [u16],
-) -> Answer
+) -> Result<Held, Refusal>
     requires { Passed model.now trace.now (record { state = state.now; table = table.old; names = names.old })
         counts }
     ensures { HoldsIn model.now trace.now asked
         (record { state = state.entry.now; table = table.old; names = names.old })
         (record { state = state.exit.now; table = table.new; names = names.new })
-        index.old index.new result }
+        index.old index.new (numbered result) }
 {
     if closing::no_places(model, counts.clauses, index) {
-        return Answer::Refused(1);
+        return Err(Refusal::Room);
     }
     match both::judge_steps(trace, counts) {
         Pair::Fault(number, _) => Answer::Refused(number),
         Pair::Fine(_) => {
             if held::facts(model) <= asked {
-                return Answer::Refused(6);
+                return Err(Refusal::Fact);
             }
             run_built(model, trace, asked, state, table, names, index)
         }
@@ -131,14 +132,14 @@ pub fn holds(
     table: &mut [u16],
     names: &mut [u8],
     index: &mut [u16],
-) -> Answer
+) -> Result<Held, Refusal>
     ensures { HoldsIn model.now trace.now asked
         (record { state = state.entry.now; table = table.old; names = names.old })
         (record { state = state.exit.now; table = table.new; names = names.new })
-        index.old index.new result }
+        index.old index.new (numbered result) }
 {
     if checking::no_space(state, table, names) {
-        return Answer::Refused(1);
+        return Err(Refusal::Room);
     }
     match both::judge_files(model, trace) {
         Pair::Fault(number, _) => Answer::Refused(number),

@@ -240,8 +240,8 @@ pub extern "C" fn cantivorex_count(model: &[u8], out: &mut [u64]) -> u8
     }
 }
 
-// Copies bytes to the front, as far as there is room; answers how many there are. Its caller, which calls it last, needs
-// no stack for it.
+// Copies bytes to the front, as far as there is room; answers how many there are. Its caller, which calls it last,
+// needs no stack for it.
 #[inline(never)]
 fn copy(bytes: &[u8], out: &mut [u8]) -> usize
     ensures count { result ≡ length bytes.now }

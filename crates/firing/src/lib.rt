@@ -7,7 +7,7 @@ ghost use Rattle.std.specs.Prelude.{◌≤◌, ◌≡◌, length, get_or};
 ghost use Rattle.std.proofs.Math.Option.{none};
 ghost use Rattle.sets.specs.Sets.{◌∈◌};
 ghost use Rattle.records.specs.Records.{records};
-ghost use Rattle.records.specs.Refusals.{numbered};
+ghost use Rattle.records.specs.Refusals.{numbered as by_number};
 ghost use Rattle.sections.specs.declared.Role.{Role};
 ghost use Rattle.files.specs.Files.{section_of, rule_in, model_of_lem, shape_fault};
 ghost use Rattle.closing.specs.Closing.{numbered};
@@ -84,7 +84,7 @@ fn rules_built(
     ensures { FiresIn model.now trace.now
         (record { state = state.entry.now; table = table.old; names = names.old })
         (record { state = state.exit.now; table = table.new; names = names.new })
-        index.old index.new list.old list.new (numbered result) }
+        index.old index.new list.old list.new (by_number result) }
 {
     let short = closing::no_places(model, counts.clauses, index);
     if (list.len() < counts.rules) | short {
@@ -109,7 +109,7 @@ pub fn rules(
     ensures { FiresIn model.now trace.now
         (record { state = state.entry.now; table = table.old; names = names.old })
         (record { state = state.exit.now; table = table.new; names = names.new })
-        index.old index.new list.old list.new (numbered result) }
+        index.old index.new list.old list.new (by_number result) }
 {
     if checking::no_space(state, table, names) {
         return Err(Refusal::Room);

@@ -6,7 +6,7 @@ use mathlib.Core.List.{List, [], ◌∷◌}
 use mathlib.Core.Option.{Option, none, some}
 use lib.Dec.{leb}
 use lib.ListN.{length, get_or}
-use Rattle.std.specs.Prelude.{Some, None}
+use Rattle.std.specs.Prelude.{Some, None, Result, Ok, Err}
 use Rattle.sets.specs.Sets.{Facts}
 use Rattle.sets.proofs.Laws.{by-test}
 use Rattle.meaning.specs.Past.{History, truth}
@@ -29,8 +29,8 @@ use Rattle.checking.specs.Verdict.{no_space_lem}
 use Rattle.running.specs.Outcomes.{outcome}
 use Rattle.reaching.specs.Reaching.{reached, StepsTo}
 use Rattle.reaching.specs.declared.Steps.{Steps}
-use Rattle.holding.specs.Holding.{holds_refusal, blocked_by, stopped, answer, Buffers, HoldsIn, Asks}
-use Rattle.holding.specs.declared.Answer.{Answer}
+use Rattle.holding.specs.Holding.{holds_refusal, blocked_by, stopped, Buffers, HoldsIn, Asks}
+use Rattle.holding.specs.declared.Held.{Held}
 
 -- ---- the steps
 
@@ -63,8 +63,8 @@ module _ (m t : List ℕ) where
   module _ {before after : Lent} {bits : List ℕ} {r : Steps} (s : StepsTo m t before after bits r) (g : ℕ) where
     -- A step can't fire: its number, and all is left as by the check.
     pub asks-blocked : (c : condition.the_data) → r.stop ≡ Some c → {k : ℕ} → k ≡ stop_number (condition_of c)
-        → Asks m t g before after (Answer.Refused k)
-    unfolding stopped answer Buffers outcome run outcome_of reached
+        → Asks m t g before after (Err k)
+    unfolding stopped Buffers outcome run outcome_of reached
     asks-blocked c e is =
         let stop : (reached m t).stop ≡ some (condition_of c) = sym s.stop ∙ ap unmet_in e in
         let by = stop_is ∙ stop in
@@ -83,8 +83,8 @@ module _ (m t : List ℕ) where
     pub asks-worked : r.stop ≡ None → g < 4096 → {table : List ℕ} {w : Worked}
         → WorksFor (model_of_lem m).clauses (members after.state) g after.table table w
         → Asks m t g before (record { state = after.state; table = table; names = after.names })
-        (Answer.Round (get_or table g 0) w.rounds)
-    unfolding stopped answer Buffers outcome run outcome_of reached
+        (Ok (record { round = get_or table g 0; rounds = w.rounds }))
+    unfolding stopped Buffers outcome run outcome_of reached
     asks-worked e low {table} {w} worked =
         let stop : (reached m t).stop ≡ none = sym s.stop ∙ ap unmet_in e in
         let by = stop_is ∙ stop in
@@ -93,7 +93,7 @@ module _ (m t : List ℕ) where
         let same : members after.state ≡ S = fun_ext s.facts in
         let done : WorksFor cs S g after.table table w = rw same at worked in
         record {
-          answers = rw by (ap₂ Answer.Round (done.entries g low ∙ shown-asked cs S g) done.rounds);
+          answers = rw by (ap₂ (λ n k. Ok (record { round = n; rounds = k })) (done.entries g low ∙ shown-asked cs S g) done.rounds);
           buffers = rw by (record {
             facts = s.facts;
             kept = s.kept;
@@ -111,24 +111,24 @@ module _ (m t : List ℕ) where
 
 module _ (m t : List ℕ) (g : ℕ) (l : Lent) (ix : List ℕ) where
   -- A refusal changes nothing.
-  refused : (k : ℕ) → holds_refusal m t g l ix ≡ some k → HoldsIn m t g l l ix ix (Answer.Refused k)
-  unfolding stopped answer Buffers Index ◌or_else◌
+  refused : (k : ℕ) → holds_refusal m t g l ix ≡ some k → HoldsIn m t g l l ix ix (Err k)
+  unfolding stopped Buffers Index ◌or_else◌
   refused k e = rw e (record { answers = refl; buffers = refl; index = refl })
 
   -- Without room.
-  pub holds-room : no_space_lem l ≡ true → HoldsIn m t g l l ix ix (Answer.Refused 1)
+  pub holds-room : no_space_lem l ≡ true → HoldsIn m t g l l ix ix (Err 1)
   unfolding holds_refusal given ◌or_else◌
   holds-room e = refused 1 (rw e)
 
   module _ (room : no_space_lem l ≡ false) where
     -- For a fault of sizes, versions or the model.
-    pub holds_files : {k : ℕ} {p : Part} → Blames (files_fault m t) k p → HoldsIn m t g l l ix ix (Answer.Refused k)
+    pub holds_files : {k : ℕ} {p : Part} → Blames (files_fault m t) k p → HoldsIn m t g l l ix ix (Err k)
     unfolding holds_refusal given ◌or_else◌
     holds_files b = rw b.number_is (refused _ (rw (room, b.is)))
 
     module _ (files : files_fault m t ≡ none) where
       -- Without room for the index.
-      pub holds-short : no_places_lem m ix ≡ true → HoldsIn m t g l l ix ix (Answer.Refused 1)
+      pub holds-short : no_places_lem m ix ≡ true → HoldsIn m t g l l ix ix (Err 1)
       unfolding holds_refusal given ◌or_else◌
       holds-short e = refused 1 (rw (room, files, e))
 
@@ -136,18 +136,18 @@ module _ (m t : List ℕ) (g : ℕ) (l : Lent) (ix : List ℕ) where
         -- For a fault of the trace.
         pub holds-steps : {k : ℕ} {p : Part}
             → Blames (steps_fault (length (aims (model_of_lem m))) (length (model_of_lem m).rules) t) k p
-            → HoldsIn m t g l l ix ix (Answer.Refused k)
+            → HoldsIn m t g l l ix ix (Err k)
         unfolding holds_refusal given ◌or_else◌
         holds-steps b = rw b.number_is (refused _ (rw (room, files, enough, b.is)))
 
         module _ (steps : steps_fault (length (aims (model_of_lem m))) (length (model_of_lem m).rules) t ≡ none) where
           -- For a number that is no fact of the model.
-          pub holds-fact : leb (fact_count m) g ≡ true → HoldsIn m t g l l ix ix (Answer.Refused 6)
+          pub holds-fact : leb (fact_count m) g ≡ true → HoldsIn m t g l l ix ix (Err 6)
           unfolding holds_refusal given ◌or_else◌
           holds-fact e = refused 6 (rw (room, files, enough, steps, e))
 
           -- Otherwise by the run.
-          pub holds-ran : leb (fact_count m) g ≡ false → {after : Lent} {ix' : List ℕ} {r : Answer}
+          pub holds-ran : leb (fact_count m) g ≡ false → {after : Lent} {ix' : List ℕ} {r : Result Held ℕ}
               → Asks m t g l after r → IndexHolds (model_of_lem m).clauses ix ix' → HoldsIn m t g l after ix ix' r
           unfolding Index holds_refusal given ◌or_else◌
           holds-ran e a holds =

@@ -40,10 +40,16 @@ use Rattle.running.specs.Outcomes.{outcome, ran, number_of, Left}
 use Rattle.running.specs.declared.Verdict.{Verdict}
 use Rattle.checking.proofs.Refusals.{either_number}
 use Rattle.checking.proofs.Theorems.{LentBytes, left_unique}
-use Rattle.holding.specs.Holding.{holds_refusal, blocked_by, stopped, answer, LeftFor, Buffers, HoldsIn, ShownUpTo}
-use Rattle.holding.specs.declared.Answer.{Answer}
+use Rattle.holding.specs.Holding.{holds_refusal, blocked_by, stopped, LeftFor, Buffers, HoldsIn, ShownUpTo}
+use Rattle.std.specs.Prelude.{Result, Ok, Err}
+use Rattle.records.specs.Refusals.{answer_or}
+use Rattle.holding.specs.declared.Held.{Held}
 
 -- ---- an answer
+
+-- an answer that is no refusal: the round number and the rounds run
+abbrev held : ℕ → ℕ → Held
+held number rounds = record { round = number; rounds = rounds }
 
 -- What is refused is some number's.
 not_mapped : (o : Option Blamed) → map blamed_number o ≡ none → o ≡ none
@@ -66,15 +72,17 @@ none-refused m t g l ix e =
     (not_mapped (files_fault m t) fine, leb-false (fact_count m) g (not-given (leb (fact_count m) g) 6 known))
 
 -- A round is answered where nothing is refused and no step is blocked.
-round-fine : (o : Option ℕ) (c : Option Condition) {j i k n : ℕ} → Answer.Round k n ≡ answer (stopped o c) j i
+round-fine : (o : Option ℕ) (c : Option Condition) {j i k n : ℕ} → Ok (held k n) ≡ answer_or (stopped o c) (held j i)
     → (o ≡ none) × (c ≡ none) × (k ≡ j) × (n ≡ i)
-unfolding answer stopped ◌or_else◌
-round-fine none none e = (refl, refl, cc, cc)
+unfolding stopped ◌or_else◌
+round-fine none none {j = j} {i = i} {k = k} {n = n} e =
+    let same : held k n ≡ held j i = cc in
+    (refl, refl, ap (λ (h : Held). h.round) same, ap (λ (h : Held). h.rounds) same)
 round-fine none (some c) e = let z : ◌≡◌ {A = ℕ} 0 1 = cc in absurd (omega arith)
 round-fine (some x) c e = let z : ◌≡◌ {A = ℕ} 0 1 = cc in absurd (omega arith)
 
 module _ {m t : List ℕ} {g : ℕ} {b a : Lent} {ix ix' : List ℕ} {k n : ℕ}
-    (h : HoldsIn m t g b a ix ix' (Answer.Round k n)) where
+    (h : HoldsIn m t g b a ix ix' (Ok (held k n))) where
   abbrev cs : List Clause
   cs = (model_of_lem m).clauses
 
@@ -174,7 +182,7 @@ module _ {m t : List ℕ} {g : ℕ} {b a : Lent} {ix ix' : List ℕ} {k n : ℕ}
 -- ---- refusals
 
 -- A refusal is no round.
-apart : {k j n : ℕ} → Answer.Refused k ≡ Answer.Round j n → ⊥
+apart : {k j n : ℕ} → Err k ≡ Ok (held j n) → ⊥
 apart e = let z : ◌≡◌ {A = ℕ} 0 1 = cc in absurd (omega arith)
 
 -- The first of three, either way.
@@ -202,19 +210,19 @@ module _ (m t : List ℕ) (g : ℕ) (l : Lent) (ix : List ℕ) where
   short-refused short files = by-test (no_space_lem l) (λ e. rw e) (λ e. rw (e, files, short))
 
 module _ {m t : List ℕ} {g : ℕ} {b a : Lent} {ix ix' : List ℕ} {k : ℕ}
-    (h : HoldsIn m t g b a ix ix' (Answer.Refused k)) where
+    (h : HoldsIn m t g b a ix ix' (Err k)) where
   -- What is refused before a step is run changes nothing, ..
   pub refused_leaves : {j : ℕ} → holds_refusal m t g b ix ≡ some j → (k ≡ j) × (a ≡ b) × (ix' ≡ ix)
-  unfolding answer stopped ◌or_else◌ Buffers Index
+  unfolding stopped ◌or_else◌ Buffers Index
   refused_leaves e =
-      let told : Answer.Refused k ≡ Answer.Refused _ = rw e at h.answers in
+      let told : Err k ≡ Err _ = rw e at h.answers in
       (cc, rw e at h.buffers, rw e at h.index)
 
   -- .. and a step that can't fire leaves all as the check does, whose number it has.
   pub blocked_as_checked : holds_refusal m t g b ix ≡ none
       → (k ≡ (ran m t (outcome m t)).number) × Left (model_of_lem m) (outcome m t) b a
       × IndexHolds (model_of_lem m).clauses ix ix'
-  unfolding answer stopped ◌or_else◌ Buffers Index blocked_by ran number_of
+  unfolding stopped ◌or_else◌ Buffers Index blocked_by ran number_of
   blocked_as_checked e = go (outcome m t).ending refl
     where
       open_end : blocked_by (outcome m t).ending ≡ none → ⊥
@@ -225,7 +233,7 @@ module _ {m t : List ℕ} {g : ℕ} {b a : Lent} {ix ix' : List ℕ} {k : ℕ}
           × IndexHolds (model_of_lem m).clauses ix ix'
       go (blocked c) o =
           let by : blocked_by (outcome m t).ending ≡ some c = ap blocked_by o in
-          let told : Answer.Refused k ≡ Answer.Refused (stop_number c) = rw (e, by) at h.answers in
+          let told : Err k ≡ Err (stop_number c) = rw (e, by) at h.answers in
           let number : k ≡ stop_number c = cc in
           (rw o number, rw (e, by) at h.buffers, rw e at h.index)
       go attack o = absurd (open_end (ap blocked_by o))
@@ -249,7 +257,7 @@ module _ (m t : List ℕ) (g : ℕ) (before : Lent) {a b : Lent} (bytes-a : Lent
       λ i. record { state = states i; table = tables i; names = names i }
 
   -- Two results of asking one pair for one fact are equal in the answer and in every byte and entry.
-  pub holds_unique : (ix ia ib : List ℕ) (r s : Answer) → HoldsIn m t g before a ix ia r
+  pub holds_unique : (ix ia ib : List ℕ) (r s : Result Held ℕ) → HoldsIn m t g before a ix ia r
       → HoldsIn m t g before b ix ib s → (r ≡ s) × (a ≡ b) × (ia ≡ ib)
   holds_unique ix ia ib r s x y =
       let refused = holds_refusal m t g before ix in (

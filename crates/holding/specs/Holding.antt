@@ -9,6 +9,8 @@ use Rattle.meaning.specs.Early.{shown, rounds_for}
 use Rattle.meaning.specs.Run.{Condition, Ending, Outcome}
 use Rattle.meaning.specs.Run.Ending.{attack, blocked, not_met, upheld}
 use Rattle.facts.specs.Facts.{members, Kept}
+use Rattle.std.specs.Prelude.{Result}
+use Rattle.records.specs.Refusals.{answer_or}
 use Rattle.records.specs.Records.{given, ◌or_else◌}
 use Rattle.files.specs.Files.{model_of_lem, fact_count, files_fault, steps_fault}
 use Rattle.files.specs.Answers.{blamed_number}
@@ -17,7 +19,7 @@ use Rattle.stepping.specs.Conditions.{names_in, stop_number}
 use Rattle.reaching.specs.Reaching.{Lent}
 use Rattle.checking.specs.Verdict.{no_space_lem}
 use Rattle.running.specs.Outcomes.{outcome, Left}
-use Rattle.holding.specs.declared.Answer.{Answer}
+use Rattle.holding.specs.declared.Held.{Held}
 
 -- ---- refusals
 
@@ -45,14 +47,6 @@ unfoldable pub stopped : Option ℕ → Option Condition → Option ℕ
 unfolding ◌or_else◌ stop_number
 stopped refused c = refused or_else map stop_number c
 
--- ---- the answer
-
--- "Answer held, with its round number, or absent, as full closing would.": the round number, 65,535 where the fact is
--- absent, and the rounds run; or a refusal's number
-unfoldable pub answer : Option ℕ → ℕ → ℕ → Answer
-answer none number rounds = Answer.Round number rounds
-answer (some k) number rounds = Answer.Refused k
-
 -- ---- the buffers
 
 -- "The round table shows facts up to the last round run and 65,535 elsewhere ..; the state is left as by the check.",
@@ -75,16 +69,20 @@ Buffers none none m o g before after = LeftFor m o g before after
 
 -- the answer, and every byte and entry of what is lent, after what refuses it
 pub record HoldsBy (refused : Option ℕ) (m t : List ℕ) (g : ℕ) (before after : Lent) (ix ix' : List ℕ)
-    (r : Answer) : Type 0 where
+    (r : Result Held ℕ) : Type 0 where
+  -- "Answer held, with its round number, or absent, as full closing would.": the round number, 65,535 where the fact is
+  -- absent, and the rounds run; or a refusal's number
   pub answers : r
-      ≡ answer (stopped refused (blocked_by (outcome m t).ending))
-      (round_number (model_of_lem m).clauses (outcome m t).state.facts g)
-      (rounds_for (model_of_lem m).clauses (outcome m t).state.facts g)
+      ≡ answer_or (stopped refused (blocked_by (outcome m t).ending))
+      (record {
+        round = round_number (model_of_lem m).clauses (outcome m t).state.facts g;
+        rounds = rounds_for (model_of_lem m).clauses (outcome m t).state.facts g;
+      })
   pub buffers : Buffers refused (blocked_by (outcome m t).ending) (model_of_lem m) (outcome m t) g before after
   pub index : Index refused (model_of_lem m).clauses ix ix'
 
 -- what is promised of two files, a number and what is lent
-abbrev pub HoldsIn : List ℕ → List ℕ → ℕ → Lent → Lent → List ℕ → List ℕ → Answer → Type 0
+abbrev pub HoldsIn : List ℕ → List ℕ → ℕ → Lent → Lent → List ℕ → List ℕ → Result Held ℕ → Type 0
 HoldsIn m t g before after ix ix' r = HoldsBy (holds_refusal m t g before ix) m t g before after ix ix' r
 
 -- ---- what follows, in words that name none of the definitions above
@@ -100,9 +98,11 @@ pub record ShownUpTo (cs : List Clause) (S : Facts) (n f entry : ℕ) : Type 0 w
 -- ---- between functions. No promise to the outside rests on this.
 
 -- the steps have been run, and the last state closed as far as is asked
-pub record Asks (m t : List ℕ) (g : ℕ) (before after : Lent) (r : Answer) : Type 0 where
+pub record Asks (m t : List ℕ) (g : ℕ) (before after : Lent) (r : Result Held ℕ) : Type 0 where
   pub answers : r
-      ≡ answer (stopped none (blocked_by (outcome m t).ending))
-      (round_number (model_of_lem m).clauses (outcome m t).state.facts g)
-      (rounds_for (model_of_lem m).clauses (outcome m t).state.facts g)
+      ≡ answer_or (stopped none (blocked_by (outcome m t).ending))
+      (record {
+        round = round_number (model_of_lem m).clauses (outcome m t).state.facts g;
+        rounds = rounds_for (model_of_lem m).clauses (outcome m t).state.facts g;
+      })
   pub buffers : Buffers none (blocked_by (outcome m t).ending) (model_of_lem m) (outcome m t) g before after

@@ -4,6 +4,7 @@
 #![tactic(auto)]
 
 ghost use Rattle.std.specs.Prelude.{◌≡◌, false, ◌<◌};
+ghost use Rattle.records.specs.Refusals.{numbered as by_number};
 ghost use Rattle.sections.specs.declared.Role.{Role};
 ghost use Rattle.files.specs.Files.{section_of, model_of_lem};
 ghost use Rattle.worklist.specs.Working.{Placed, Listed};
@@ -40,7 +41,7 @@ fn run_for(
         × Placed (section_of model.now Role.Clauses) starts.now × (asked < 4096) }
     ensures { Asks model.now trace.now asked
         (record { state = state.entry.now; table = table.old; names = names.old })
-        (record { state = state.exit.now; table = table.new; names = names.new }) (numbered result) }
+        (record { state = state.exit.now; table = table.new; names = names.new }) (by_number result) }
 {
     let codes = reaching::goal_codes(model, trace);
     let mut kept = [0u8; 32];
@@ -48,10 +49,13 @@ fn run_for(
         model, trace, codes, state, table, names, &mut kept, index, ends, starts,
     );
     match reached.stop {
-        Some(c) => Answer::Refused(conditions::refusal_of(c).number()),
+        Some(c) => Err(conditions::refusal_of(c)),
         None => {
             let worked = closing::close_worked(model, state, table, index, ends, starts, asked);
-            Answer::Round(table[asked] as usize, worked.rounds)
+            Ok(Held {
+                round: table[asked] as usize,
+                rounds: worked.rounds,
+            })
         }
     }
 }
@@ -70,7 +74,7 @@ fn run_built(
         × (no_places_lem model.now index.old ≡ false) × (asked < 4096) }
     ensures { Asks model.now trace.now asked
         (record { state = state.entry.now; table = table.old; names = names.old })
-        (record { state = state.exit.now; table = table.new; names = names.new }) (numbered result)
+        (record { state = state.exit.now; table = table.new; names = names.new }) (by_number result)
         × IndexHolds (model_of_lem model.now).clauses index.old index.new }
 {
     let mut ends = [0u16; 4097];
@@ -106,24 +110,20 @@ fn holds_passed(
     ensures { HoldsIn model.now trace.now asked
         (record { state = state.entry.now; table = table.old; names = names.old })
         (record { state = state.exit.now; table = table.new; names = names.new })
-        index.old index.new (numbered result) }
+        index.old index.new (by_number result) }
 {
     if closing::no_places(model, counts.clauses, index) {
         return Err(Refusal::Room);
     }
-    match both::judge_steps(trace, counts) {
-        Pair::Fault(number, _) => Answer::Refused(number),
-        Pair::Fine(_) => {
-            if held::facts(model) <= asked {
-                return Err(Refusal::Fact);
-            }
-            run_built(model, trace, asked, state, table, names, index)
-        }
+    both::judge_steps(trace, counts)?;
+    if held::facts(model) <= asked {
+        return Err(Refusal::Fact);
     }
+    run_built(model, trace, asked, state, table, names, index)
 }
 
 // Whether a fact holds after all steps: held with its round number, or absent, and the rounds run on the last state; or
-// a refusal's number. A refusal changes nothing, but that a step which can't fire leaves all as the check does.
+// a refusal. A refusal changes nothing, but that a step which can't fire leaves all as the check does.
 pub fn holds(
     model: &[u8],
     trace: &[u8],
@@ -136,13 +136,11 @@ pub fn holds(
     ensures { HoldsIn model.now trace.now asked
         (record { state = state.entry.now; table = table.old; names = names.old })
         (record { state = state.exit.now; table = table.new; names = names.new })
-        index.old index.new (numbered result) }
+        index.old index.new (by_number result) }
 {
     if checking::no_space(state, table, names) {
         return Err(Refusal::Room);
     }
-    match both::judge_files(model, trace) {
-        Pair::Fault(number, _) => Answer::Refused(number),
-        Pair::Fine(counts) => holds_passed(model, trace, counts, asked, state, table, names, index),
-    }
+    let counts = both::judge_files(model, trace)?;
+    holds_passed(model, trace, counts, asked, state, table, names, index)
 }

@@ -1,5 +1,6 @@
 -- Laws on searching a number among pairs of bytes by halves.
-use Rattle.std.proofs.Common.{ℕ, zero, suc, ◌+◌, ◌*◌, ◌/◌, ◌≤◌, ◌<◌, ◌≡◌, refl, sym, ap, ◌∙◌, true, List, [], length, get_or, take, drop, arith}
+use Rattle.std.proofs.Common.{ℕ, zero, suc, ◌+◌, ◌*◌, ◌/◌, ◌≤◌, ◌<◌, ◌≡◌, refl, sym, ap, ◌∙◌, true}
+use Rattle.std.proofs.Common.{List, [], length, get_or, take, drop, arith}
 use Rattle.std.specs.Prelude.{Result, Ok, Err, MatchResult, is_ok}
 use Rattle.std.specs.Ordering.{nat_cmp}
 use Rattle.std.specs.List.Sorted.{IsBinarySearchResult, IsSearchInRange}
@@ -16,13 +17,13 @@ use Rattle.records.proofs.Words.{length-words, words-index, word-take}
 use Rattle.lists.proofs.Sorted.{ascending-at, found, not_found}
 
 -- chunk i of 2 bytes is the two bytes at its place
-chunk-index : (k : ℕ) (bytes : List ℕ) (i : ℕ) (d : List ℕ) → i < k
+chunk_index : (k : ℕ) (bytes : List ℕ) (i : ℕ) (d : List ℕ) → i < k
     → get_or (first_chunks 2 k bytes) i d ≡ take 2 (drop (2 * i) bytes)
-chunk-index zero bytes i d h = absurd (not-suc-le-zero h)
-chunk-index (suc k) bytes zero d h = refl
-chunk-index (suc k) bytes (suc i) d h =
+chunk_index zero bytes i d h = absurd (not-suc-le-zero h)
+chunk_index (suc k) bytes zero d h = refl
+chunk_index (suc k) bytes (suc i) d h =
     let place : 2 + 2 * i ≡ 2 * suc i = omega arith in
-    chunk-index k (drop 2 bytes) i d (le_of_suc-le-suc h)
+    chunk_index k (drop 2 bytes) i d (le_of_suc-le-suc h)
     ∙ ap (take 2) (drop-drop (2 * i) 2 bytes ∙ ap (λ m. drop m bytes) place)
 
 -- A search for a number among pairs of bytes is one among the numbers that they are.
@@ -58,13 +59,14 @@ searched-listed xs n r sorted h = go r (searched xs n r h rises)
         sym (not_found xs n (record { ends = l; smaller = below; larger = above }) (omega arith))
 
 -- The numbers of bytes, by a search among their chunks of 2 bytes.
-pub chunks-listed : (bytes : List ℕ) (n : ℕ) (cs : List (List ℕ)) (r : Result ℕ ℕ) → ascending (words bytes) ≡ true
+pub chunks_listed : (bytes : List ℕ) (n : ℕ) (cs : List (List ℕ)) (r : Result ℕ ℕ) → ascending (words bytes) ≡ true
     → cs ≡ first_chunks 2 (length bytes / 2) bytes → length cs ≡ length bytes / 2 → IsSearchInRange r (length cs)
     → IsBinarySearchResult (λ y. nat_cmp (word y) n) cs r → is_ok r ≡ listed (words bytes) n
-chunks-listed bytes n cs r sorted chunked long within h =
+chunks_listed bytes n cs r sorted chunked long within h =
     let xs = words bytes in
     let many : length cs ≡ length xs = long ∙ sym (length-words bytes) in
     let same : (i : ℕ) (d : List ℕ) → i < length xs → word (get_or cs i d) ≡ get_or xs i 0 = λ i d l.
-    ap (λ c. word (get_or c i d)) chunked ∙ ap word (chunk-index (length bytes / 2) bytes i d (omega (arith, length-words bytes)))
+    ap (λ c. word (get_or c i d)) chunked
+    ∙ ap word (chunk_index (length bytes / 2) bytes i d (omega (arith, length-words bytes)))
     ∙ word-take (drop (2 * i) bytes) ∙ sym (words-index bytes i l) in
     searched-listed xs n r sorted (among_numbers cs xs n r many same (rw (← many) within) h)

@@ -123,7 +123,7 @@ pub fn fact_of(c: Condition) -> usize
     }
 }
 
-// Its kind: 1 positive, 2 negative; that of a name has none. C is handed these numbers.
+// Its kind: 1 positive, 2 negative; that of a name has none. These numbers stay, since C is handed them.
 #[tactic(auto, unfolding(crate::specs::Conditions::condition_of, crate::specs::Conditions::kind_in))]
 pub fn kind_of(c: Condition) -> u8
     ensures { result ≡ kind_in (condition_of c) }
@@ -135,8 +135,8 @@ pub fn kind_of(c: Condition) -> u8
     }
 }
 
-// The round in which a negative condition's fact arose; the others have none, which C is handed as 65,535.
-#[tactic(auto, unfolding(crate::specs::Conditions::condition_of, crate::specs::Conditions::KnownIn, crate::specs::Conditions::round_in))]
+// The round in which a negative condition's fact arose; the others have none: 65,535, as C is handed it, so it stays.
+#[tactic(auto, unfolding(crate::specs::Conditions::condition_of, crate::specs::Conditions::round_in))]
 pub fn round_of(c: Condition, table: &[u16]) -> usize
     requires { KnownIn (condition_of c) × (4096 ≤ length table.now) }
     ensures { result ≡ round_in (λ f. get_or table.now f 0) (condition_of c) }

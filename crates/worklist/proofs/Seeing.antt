@@ -232,7 +232,8 @@ cross_all-more cs r (j ∷ ks) k w = cross_all-more cs r ks k (cross cs r j w)
 -- ---- the fact that waits at a place of the queue
 
 -- It is the queue's there.
-pub waiting-fact : (queue : List ℕ) (n at f : ℕ) → (at < length (take n queue)) × ((d : ℕ) → f ≡ get_or (take n queue) at d)
+pub waiting-fact : (queue : List ℕ) (n at f : ℕ)
+    → (at < length (take n queue)) × ((d : ℕ) → f ≡ get_or (take n queue) at d)
     → (at < n) × (f ≡ get_or queue at 0)
 waiting-fact queue n at f (h, is) =
     let some : at < n = omega (arith, length-take n queue) in

@@ -121,7 +121,8 @@ module _ (g : ℕ) (table queue : List ℕ) (n at : ℕ) where
   unfolding waits_for
   waits-more {f} e =
       let (waits, is) = chosen _ _ e in
-      let (some, less) = (both (ltb at n) (ltb (get_or table (get_or queue at 0) 0) (number_in table g))).0 (passes waits) in
+      let sooner = ltb (get_or table (get_or queue at 0) 0) (number_in table g) in
+      let (some, less) = (both (ltb at n) sooner).0 (passes waits) in
       (ltb-true _ _ (is_true some), is, rw is (ltb-true _ _ (is_true less)))
     where
       chosen : (b : Bool) (x : ℕ) → Some f ≡ cond b (Some x) None → (b ≡ true) × (f ≡ x)
@@ -212,8 +213,8 @@ module _ {cs : List Clause} {S : Facts} (known : Known cs S) {g at c : ℕ} {a :
           in
           let less : number_in a.table f < number_in a.table g = rw (number-low a.table f first-low) l in
           let done = toward-next known b.toward first-waits less in
-          let count : (cross_all_lem cs (suc (number_in a.table f)) (entries_from_lem 0 cs f) (said a (suc at) c)).crossings
-          ≡ c + length entries =
+          let after = cross_all_lem cs (suc (number_in a.table f)) (entries_from_lem 0 cs f) (said a (suc at) c) in
+          let count : after.crossings ≡ c + length entries =
           omega (arith, done.sound.crossings, within.crossings, ap length these)
           in
           rw (add-one, ← count)

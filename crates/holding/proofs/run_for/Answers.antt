@@ -38,7 +38,7 @@ bounds-table-asked c =
 
 pub returns-in-Some : goal.returns-in-Some
 returns-in-Some c =
-    asks-blocked _ _ c.reach-reached.ensures _ _ c.in-Some.is (c.number.ensures ∙ c.refusal_of.ensures)
+    asks-blocked _ _ c.reach-reached.ensures _ _ c.in-Some.is c.refusal_of.ensures
 
 pub returns-in-None : goal.returns-in-None
 returns-in-None c =

@@ -41,15 +41,17 @@ loop-k-init c =
 pub loop-k-preserved : goal.loop-k-preserved
 loop-k-preserved c =
     let steps = c.in-Some.ensures.steps in
+    let k = enumerate_count c.loop-k.k-iterator in
     let (next, finite, size, left, some, noted, facts, count) = c.loop-k.invariant in
     let two = two-starts _ c.requires.0 c.requires.1 size left steps.0.1.0 steps.0.1.1 in (
       search rules,
       search rules,
       steps.0.0 ∙ size,
-      rw steps.2 (steps.0.1.2 ∙ ap (drop 1) left ∙ drop-drop 1 (enumerate_count c.loop-k.k-iterator) c.args.clauses.starts.now),
+      rw steps.2 (steps.0.1.2 ∙ ap (drop 1) left ∙ drop-drop 1 k c.args.clauses.starts.now),
       omega (arith, steps.2, two.more),
       rw (steps.2, steps.1)
-          (noted-next noted two.number (omega (arith, two.more, c.requires.3)) (omega (arith, two.ends)) (omega arith) (omega arith)),
+          (noted-next noted two.number (omega (arith, two.more, c.requires.3)) (omega (arith, two.ends)) (omega arith)
+          (omega arith)),
       facts,
       count,
     )
@@ -69,7 +71,8 @@ overflow_cast-body-2 c =
     let there = clause-last _ c.requires.0 c.requires.1 c.in-Some-last.ensures.item.3 in
     let count = c.requires.1.count in
     let some = c.in-Some-last.ensures.item.3.0 in
-    omega (arith, there.size, c.word_at.ensures, c.requires.2 _ (clause_in _ (length c.args.clauses.starts.now - 1) (omega arith)))
+    let short = c.requires.2 _ (clause_in _ (length c.args.clauses.starts.now - 1) (omega arith)) in
+    omega (arith, there.size, c.word_at.ensures)
 
 pub returns : goal.returns
 returns c =
@@ -77,11 +80,14 @@ returns c =
     let clauses = c.requires.1.count in
     let some = c.in-Some-last.ensures.item.3.0 in
     let (next, finite, size, left, few, noted, facts, count) = c.loop-k.invariant in
-    let last : enumerate_count c.loop-k.k-iterator ≡ length c.args.clauses.starts.now - 1 =
-    omega (arith, c.in-None.ensures.steps.0.1.0, size, ap length left, length-drop (enumerate_count c.loop-k.k-iterator) c.args.clauses.starts.now)
+    let k = enumerate_count c.loop-k.k-iterator in
+    let starts = c.args.clauses.starts.now in
+    let last : k ≡ length starts - 1 =
+    omega (arith, c.in-None.ensures.steps.0.1.0, size, ap length left, length-drop k starts)
     in (
       noted-end
-          (noted-next (rw last at noted) (omega arith) (omega (arith, c.requires.3)) (omega (arith, there.size, c.word_at.ensures)) (omega arith) (omega arith))
+          (noted-next (rw last at noted) (omega arith) (omega (arith, c.requires.3))
+          (omega (arith, there.size, c.word_at.ensures)) (omega arith) (omega arith))
           (omega arith),
       facts,
       count,

@@ -13,4 +13,5 @@ invariant-loop-k l =
     (goal.iterator-loop-k).can_next l.k-iterator × (goal.iterator-loop-k).is_finite l.k-iterator
     × (windows_size left ≡ 2) × (windows_rest left ≡ drop k l.clauses.starts.now)
     × (k ≤ length l.clauses.starts.now - 1)
-    × Noted (clauses_in l.clauses.bytes.now) k l.least l.self.lacks.now × (l.self.queue.facts.now ≡ l.fn.self.queue.facts.now) × (l.self.queue.n ≡ l.fn.self.queue.n)
+    × Noted (clauses_in l.clauses.bytes.now) k l.least l.self.lacks.now
+    × (l.self.queue.facts.now ≡ l.fn.self.queue.facts.now) × (l.self.queue.n ≡ l.fn.self.queue.n)

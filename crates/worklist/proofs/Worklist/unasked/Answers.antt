@@ -28,7 +28,9 @@ loop-k-preserved c =
     omega (arith, pre.1.count, length-take (length c.args.clauses.starts.now) c.args.self.now.lacks.now) in
     let known = pre.0.known in
     let opened = c.loop-k.invariant in
-    let left = get_or-take (length c.args.clauses.starts.now) c.args.self.now.lacks.now c.loop-k.k 0 (omega (arith, inside)) ∙ pre.2.bodies c.loop-k.k in
+    let few = length c.args.clauses.starts.now in
+    let lacks = c.args.self.now.lacks.now in
+    let left = get_or-take few lacks c.loop-k.k 0 (omega (arith, inside)) ∙ pre.2.bodies c.loop-k.k in
     elim c.if-left-eq0.branch [
       | then-left-eq0 w ↦
           rw (w.table-is, w.queue-is)
@@ -40,4 +42,5 @@ loop-k-preserved c =
 pub returns : goal.returns
 returns c =
     let pre = c.requires in
-    opened-end pre.0.known c.loop-k.invariant (omega (arith, pre.1.count, length-take (length c.args.clauses.starts.now) c.args.self.now.lacks.now)) pre.2
+    let passed = length-take (length c.args.clauses.starts.now) c.args.self.now.lacks.now in
+    opened-end pre.0.known c.loop-k.invariant (omega (arith, pre.1.count)) pre.2

@@ -1,11 +1,13 @@
 -- The clauses of a judged section, one at a time: what each is.
 use Prim.Native.Nat.{ℕ, ◌+◌, ◌-◌, ◌≤◌, ◌<◌}
 use mathlib.Core.Path.{◌≡◌, refl, sym, ap, ◌∙◌}
-use mathlib.Core.Bool.{Bool}
+use mathlib.Core.Bool.{Bool, false}
 use mathlib.Core.List.Memᴰ
 use mathlib.Core.List.{List, ◌∷◌, map}
 use native.Mathlib.Omega.{arith}
+use lib.Dec.{eqb}
 use lib.ListN.{length, take, drop, length-drop}
+use borrow.Author.Tests.{eqb-false}
 use Rattle.sets.specs.Sets.{Facts, every}
 use Rattle.meaning.specs.Model.{Clause}
 use Rattle.meaning.specs.Rounds.{stands}
@@ -38,12 +40,12 @@ bounded-rest b =
       bodies = λ d m. b.bodies d (Memᴰ.tail m);
     }
 
-module _ (section : List ℕ) (some : length section ≡ 0 → ⊥) (all : AllCut Kind.Clause section) where
+module _ (section : List ℕ) (some : false ≡ eqb (length section) 0) (all : AllCut Kind.Clause section) where
   abbrev r : List ℕ
   r = record_of_lem section
 
   parts : records section ≡ r ∷ records (drop (length r) section)
-  parts = records-next section (omega (arith, some))
+  parts = records-next section (omega (arith, eqb-false (length section) 0 (sym some)))
 
   bytes : ClauseBytes section
   unfolding AllCut

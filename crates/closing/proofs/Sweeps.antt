@@ -23,10 +23,6 @@ pub record Sweeping (cs : List Clause) (r : ℕ) (before : List ℕ)
   pub numbers : (f : ℕ) → swept rest r table f ≡ swept cs r before f
   pub answer : (added || adds rest r table) ≡ adds cs r before
 
--- Before the first clause nothing has changed.
-pub sweep-start : (cs : List Clause) (r : ℕ) (table : List ℕ) → Sweeping cs r table cs table false
-sweep-start cs r table = record { as_long = refl; beyond = refl; numbers = λ f. refl; answer = refl }
-
 -- After the last clause the table has the numbers.
 pub sweep-end : {cs : List Clause} {r : ℕ} {before table : List ℕ} {added : Bool} → Sweeping cs r before [] table added
     → (added ≡ adds cs r before) × Written (swept cs r before) before table

@@ -7,13 +7,10 @@ use native.Mathlib.Omega.{arith}
 use borrow.Author.Tests.{lt-ltb, le-ltb}
 use lib.ListN.{length, set}
 use Rattle.std.specs.Prelude.{Result, Ok, Err}
-use Rattle.records.specs.Answers.{code}
-use Rattle.records.specs.declared.Fault.{Fault}
+use Rattle.records.specs.Refusals.{Fault, code, answer_or}
 use Rattle.files.specs.Files.{fact_count, model_of_lem, model_fault}
-use Rattle.files.specs.Answers.{counts_of, judged}
+use Rattle.files.specs.Answers.{counts_of}
 use Rattle.files.specs.declared.Counts.{Counts}
-use Rattle.files.specs.declared.Judged.{Judged}
-use Rattle.files.proofs.Answers.{judged-fine, judged-fault}
 use Rattle.closing.specs.Closing as closing
 use Rattle.closing.proofs.Alone.{answer-ok, answer-err}
 use Rattle.closing.specs.declared.Worked.{Worked}
@@ -22,9 +19,8 @@ use Rattle.checking.specs.Verdict.{verdict_of_lem, Buffers, Checked, CheckedInde
 use Rattle.running.specs.declared.Verdict.{Verdict}
 use Rattle.exports.specs.Exports.{shorter, over, values, VerdictOut, ChecksOut, ChecksIndexedOut}
 use Rattle.firing.specs.Firing as firing
-use Rattle.firing.specs.declared.Fired.{Fired}
 use Rattle.holding.specs.Holding as holding
-use Rattle.holding.specs.declared.Answer.{Answer}
+use Rattle.holding.specs.declared.Held.{Held}
 use Rattle.exports.specs.Exports.{unless_refused, ClosesOut, ClosesIndexedOut, RulesOut, HoldsOut}
 use Rattle.exports.specs.Exports.{model_refusal, figures, CountsOut}
 use Rattle.exports.proofs.Fronts.{stored}
@@ -140,18 +136,6 @@ module _ (m state table ix : List ℕ) where
 
 -- ---- the rules that fire
 
--- a count is answered where nothing is refused
-count-fine : (o : Option ℕ) (k n : ℕ) → Fired.Count n ≡ firing.answer o k → (o ≡ none) × (n ≡ k)
-unfolding firing.answer
-count-fine none k n e = (refl, cc)
-count-fine (some j) k n e = let z : ◌≡◌ {A = ℕ} 0 1 = cc in absurd (omega arith)
-
--- a refusal is answered by its number
-rules-some : (o : Option ℕ) (k n : ℕ) → Fired.Refused n ≡ firing.answer o k → o ≡ some n
-unfolding firing.answer
-rules-some none k n e = let z : ◌≡◌ {A = ℕ} 0 1 = cc in absurd (omega arith)
-rules-some (some j) k n e = cc
-
 module _ (m t : List ℕ) (before : Lent) (ix list : List ℕ) where
   -- without room for the count
   pub no_count : (out : List ℕ) → length out < 1
@@ -159,14 +143,14 @@ module _ (m t : List ℕ) (before : Lent) (ix list : List ℕ) where
   unfolding shorter RulesOut
   no_count out short = rw (lt-ltb _ _ short) (refl, refl, refl, refl, refl)
 
-  module _ (after : Lent) (ix' list' out : List ℕ) (r : Fired) (n : ℕ) (room : 1 ≤ length out)
+  module _ (after : Lent) (ix' list' out : List ℕ) (r : Result ℕ ℕ) (n : ℕ) (room : 1 ≤ length out)
       (fired : firing.FiresIn m t before after ix ix' list list' r) where
     -- the count is written
-    pub some-count : r ≡ Fired.Count n
+    pub some-count : r ≡ Ok n
         → RulesOut (shorter out 1) m t before after ix ix' list list' out (set out 0 n) 0
     unfolding shorter RulesOut code unless_refused
     some-count told =
-        let (fine, same) = count-fine _ _ _ (sym told ∙ fired.answers) in
+        let (fine, same) = answer-ok _ _ _ (sym told ∙ fired.answers) in
         rw (le-ltb _ _ room)
         (record {
           number = rw fine;
@@ -177,10 +161,10 @@ module _ (m t : List ℕ) (before : Lent) (ix list : List ℕ) where
         })
 
     -- a refusal writes nothing
-    pub rules-refused : r ≡ Fired.Refused n → RulesOut (shorter out 1) m t before after ix ix' list list' out out n
+    pub rules-refused : r ≡ Err n → RulesOut (shorter out 1) m t before after ix ix' list list' out out n
     unfolding shorter RulesOut code unless_refused
     rules-refused told =
-        let number = rules-some _ _ _ (sym told ∙ fired.answers) in
+        let number = answer-err _ _ _ (sym told ∙ fired.answers) in
         rw (le-ltb _ _ room)
         (record {
           number = rw number;
@@ -192,45 +176,35 @@ module _ (m t : List ℕ) (before : Lent) (ix list : List ℕ) where
 
 -- ---- one fact
 
--- a round number is answered where nothing is refused
-round-fine : (o : Option ℕ) (k l n c : ℕ) → Answer.Round n c ≡ holding.answer o k l → (o ≡ none) × (n ≡ k) × (c ≡ l)
-unfolding holding.answer
-round-fine none k l n c e = (refl, cc, cc)
-round-fine (some j) k l n c e = let z : ◌≡◌ {A = ℕ} 0 1 = cc in absurd (omega arith)
-
--- a refusal is answered by its number
-round-some : (o : Option ℕ) (k l n : ℕ) → Answer.Refused n ≡ holding.answer o k l → o ≡ some n
-unfolding holding.answer
-round-some none k l n e = let z : ◌≡◌ {A = ℕ} 0 1 = cc in absurd (omega arith)
-round-some (some j) k l n e = cc
-
 module _ (m t : List ℕ) (g : ℕ) (before : Lent) (ix : List ℕ) where
   -- without room for the two values
   pub no_round : (out : List ℕ) → length out < 2 → HoldsOut (shorter out 2) m t g before before ix ix out out 1
   unfolding shorter HoldsOut
   no_round out short = rw (lt-ltb _ _ short) (refl, refl, refl, refl)
 
-  module _ (after : Lent) (ix' out : List ℕ) (r : Answer) (n : ℕ) (room : 2 ≤ length out)
+  module _ (after : Lent) (ix' out : List ℕ) (r : Result Held ℕ) (n : ℕ) (room : 2 ≤ length out)
       (asked : holding.HoldsIn m t g before after ix ix' r) where
     -- they are written
-    pub some-round : (c : ℕ) → r ≡ Answer.Round n c
-        → HoldsOut (shorter out 2) m t g before after ix ix' out (set (set out 0 n) 1 c) 0
+    pub some-round : (h : Held) → r ≡ Ok h
+        → HoldsOut (shorter out 2) m t g before after ix ix' out (set (set out 0 h.round) 1 h.rounds) 0
     unfolding shorter HoldsOut code unless_refused
-    some-round c told =
-        let (fine, same, rounds) = round-fine _ _ _ _ _ (sym told ∙ asked.answers) in
+    some-round h told =
+        let (fine, same) = answer-ok _ _ _ (sym told ∙ asked.answers) in
         rw (le-ltb _ _ room)
         (record {
           number = rw fine;
-          values = rw (fine, ← same, ← rounds) (stored (n ∷ c ∷ []) out room);
+          values = rw fine
+              (stored (h.round ∷ h.rounds ∷ []) out room
+              ∙ ap (λ (v : Held). over (v.round ∷ v.rounds ∷ []) out) same);
           buffers = asked.buffers;
           index = asked.index;
         })
 
     -- a refusal writes nothing there
-    pub round-refused : r ≡ Answer.Refused n → HoldsOut (shorter out 2) m t g before after ix ix' out out n
+    pub round-refused : r ≡ Err n → HoldsOut (shorter out 2) m t g before after ix ix' out out n
     unfolding shorter HoldsOut code unless_refused
     round-refused told =
-        let number = round-some _ _ _ _ (sym told ∙ asked.answers) in
+        let number = answer-err _ _ _ (sym told ∙ asked.answers) in
         rw (le-ltb _ _ room)
         (record { number = rw number; values = rw number; buffers = asked.buffers; index = asked.index })
 
@@ -242,18 +216,19 @@ module _ (m out : List ℕ) where
   unfolding shorter CountsOut
   no_figures short = rw (lt-ltb _ _ short) (refl, refl)
 
-  module _ (r : Judged) (room : 4 ≤ length out) (is : r ≡ judged (model_fault m) (counts_of m)) where
+  module _ (r : Result Counts Fault) (room : 4 ≤ length out)
+      (is : r ≡ answer_or (model_fault m) (counts_of m)) where
     -- they are written
-    pub some-figures : (n : Counts) (F : ℕ) (out' : List ℕ) → r ≡ Judged.Fine n → F ≡ fact_count m
+    pub some-figures : (n : Counts) (F : ℕ) (out' : List ℕ) → r ≡ Ok n → F ≡ fact_count m
         → out' ≡ over (F ∷ n.clauses ∷ n.rules ∷ n.goals ∷ []) out → CountsOut (shorter out 4) m out out' 0
     unfolding shorter CountsOut code model_refusal unless_refused figures counts_of model_of_lem
     some-figures n F out' told facts written =
-        let (fine, same) = judged-fine _ _ _ is told in
+        let (fine, same) = answer-ok _ _ _ (sym told ∙ is) in
         rw (le-ltb _ _ room) (record { number = rw fine; figures = rw fine (rw (facts, ← same) at written) })
 
     -- a refusal writes nothing
-    pub no_model : (f : Fault) → r ≡ Judged.Fault f → CountsOut (shorter out 4) m out out f.number
+    pub no_model : (f : Fault) → r ≡ Err f → CountsOut (shorter out 4) m out out f.number
     unfolding shorter CountsOut code model_refusal unless_refused
     no_model f told =
-        let number = judged-fault _ _ _ is told in
+        let number = answer-err _ _ _ (sym told ∙ is) in
         rw (le-ltb _ _ room) (record { number = rw number; figures = rw number })

@@ -7,7 +7,7 @@ use Rattle.meaning.specs.Rounds as meant
 use Rattle.meaning.specs.Early.{rounds_for}
 use Rattle.meaning.specs.Worklist.{places_in}
 use Rattle.facts.specs.Facts.{members}
-use Rattle.records.specs.Answers.{code}
+use Rattle.records.specs.Refusals.{code}
 use Rattle.files.specs.Files.{model_of_lem, model_fault}
 use Rattle.closing.specs.Closing.{close_refusal, close_refusal_indexed, Table, Index}
 use Rattle.reaching.specs.Reaching.{Lent}

@@ -9,9 +9,7 @@ ghost use Rattle.exports.specs.Exports.{RulesOut, HoldsOut, CountsOut, PartOut};
 ghost use Rattle.exports.specs.Exports.{shorter, values, over};
 ghost use Rattle.files.specs.Answers.{part_of};
 
-use files::{Counts, Judged, Part, both, held, model};
-use firing::Fired;
-use holding::Answer;
+use files::{Counts, Part, both, held, model};
 use running::Verdict;
 
 // How many values a verdict has.
@@ -113,7 +111,7 @@ pub extern "C" fn cantivorex_close(
             out[0] = rounds as u64;
             0
         }
-        Err(number) => number,
+        Err(refusal) => refusal.number(),
     }
 }
 
@@ -140,7 +138,7 @@ pub extern "C" fn cantivorex_close_indexed(
             out[1] = worked.crossings as u64;
             0
         }
-        Err(number) => number,
+        Err(refusal) => refusal.number(),
     }
 }
 
@@ -167,11 +165,11 @@ pub extern "C" fn cantivorex_rules(
         return 1;
     }
     match firing::rules(model, trace, state, table, names, index, list) {
-        Fired::Count(n) => {
+        Ok(n) => {
             out[0] = n as u64;
             0
         }
-        Fired::Refused(number) => number,
+        Err(refusal) => refusal.number(),
     }
 }
 
@@ -198,12 +196,12 @@ pub extern "C" fn cantivorex_holds(
         return 1;
     }
     match holding::holds(model, trace, fact, state, table, names, index) {
-        Answer::Round(n, rounds) => {
-            out[0] = n as u64;
-            out[1] = rounds as u64;
+        Ok(fact) => {
+            out[0] = fact.round as u64;
+            out[1] = fact.rounds as u64;
             0
         }
-        Answer::Refused(number) => number,
+        Err(refusal) => refusal.number(),
     }
 }
 
@@ -232,11 +230,11 @@ pub extern "C" fn cantivorex_count(model: &[u8], out: &mut [u64]) -> u8
         return 1;
     }
     match model::judge_model(model) {
-        Judged::Fine(counts) => {
+        Ok(counts) => {
             put_figures(held::facts(model), counts, out);
             0
         }
-        Judged::Fault(fault) => fault.number,
+        Err(fault) => fault.refusal.number(),
     }
 }
 

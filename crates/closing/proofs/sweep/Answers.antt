@@ -1,6 +1,6 @@
 -- What stands at the start of what is left is a clause, and does to the table what the clause does.
-use Rattle.std.proofs.Common.{◌≡◌, length, sym, ap, ◌∙◌, arith, map}
-use borrow.Author.Tests.{eqb-true, eqb-false}
+use Rattle.std.proofs.Common.{sym, ap, ◌∙◌, arith, map}
+use borrow.Author.Tests.{eqb-true}
 use Rattle.records.proofs.Sections.{rest_of, records_empty}
 use Rattle.files.specs.Files.{clause_of, clauses_in}
 use Rattle.closing.proofs.Clauses.{clause-fits, clause-first, head-is, body_stands}
@@ -12,75 +12,65 @@ use Rattle.closing.proofs.sweep.Goals.{else-table-head-via-else-table-head}
 pub word_at-requires : goal.word_at-requires
 word_at-requires c =
     let inv = c.loop-rest.invariant in
-    let some : length c.loop-rest.rest.now ≡ 0 → ⊥ = eqb-false _ _ (sym c.is_empty.ensures ∙ c.loop-rest-test.true) in
-    omega (arith, clause-fits c.loop-rest.rest.now some inv.cut)
+    omega (arith, clause-fits c.loop-rest.rest.now c.loop-rest-test.ensures inv.cut)
 
 pub overflow_add-word_at : goal.overflow_add-word_at
 overflow_add-word_at c =
     let inv = c.loop-rest.invariant in
-    let some : length c.loop-rest.rest.now ≡ 0 → ⊥ = eqb-false _ _ (sym c.is_empty.ensures ∙ c.loop-rest-test.true) in
-    omega (arith, clause-fits c.loop-rest.rest.now some inv.cut, c.word_at.ensures)
+    omega (arith, clause-fits c.loop-rest.rest.now c.loop-rest-test.ensures inv.cut, c.word_at.ensures)
 
 pub split_at-requires : goal.split_at-requires
 split_at-requires c =
     let inv = c.loop-rest.invariant in
-    let some : length c.loop-rest.rest.now ≡ 0 → ⊥ = eqb-false _ _ (sym c.is_empty.ensures ∙ c.loop-rest-test.true) in
-    omega (arith, clause-fits c.loop-rest.rest.now some inv.cut, c.word_at.ensures)
+    omega (arith, clause-fits c.loop-rest.rest.now c.loop-rest-test.ensures inv.cut, c.word_at.ensures)
 
 pub word_at-head-requires : goal.word_at-head-requires
 word_at-head-requires c =
     let inv = c.loop-rest.invariant in
-    let some : length c.loop-rest.rest.now ≡ 0 → ⊥ = eqb-false _ _ (sym c.is_empty.ensures ∙ c.loop-rest-test.true) in
-    let f = clause-first c.loop-rest.rest.now some inv.cut inv.bounded _ c.word_at.ensures c.split_at.ensures.front
-    c.split_at.ensures.back in
+    let f = clause-first c.loop-rest.rest.now c.loop-rest-test.ensures inv.cut inv.bounded _ c.word_at.ensures
+    c.split_at.ensures.front c.split_at.ensures.back in
     f.long
 
 pub offset_bounds-table-head : goal.offset_bounds-table-head
 offset_bounds-table-head c =
     let inv = c.loop-rest.invariant in
-    let some : length c.loop-rest.rest.now ≡ 0 → ⊥ = eqb-false _ _ (sym c.is_empty.ensures ∙ c.loop-rest-test.true) in
-    let f = clause-first c.loop-rest.rest.now some inv.cut inv.bounded _ c.word_at.ensures c.split_at.ensures.front
-    c.split_at.ensures.back in
+    let f = clause-first c.loop-rest.rest.now c.loop-rest-test.ensures inv.cut inv.bounded _ c.word_at.ensures
+    c.split_at.ensures.front c.split_at.ensures.back in
     omega (arith, f.head, c.word_at-head.ensures)
 
 pub bounds-table-head : goal.bounds-table-head
 bounds-table-head c =
     let inv = c.loop-rest.invariant in
-    let some : length c.loop-rest.rest.now ≡ 0 → ⊥ = eqb-false _ _ (sym c.is_empty.ensures ∙ c.loop-rest-test.true) in
-    let f = clause-first c.loop-rest.rest.now some inv.cut inv.bounded _ c.word_at.ensures c.split_at.ensures.front
-    c.split_at.ensures.back in
+    let f = clause-first c.loop-rest.rest.now c.loop-rest-test.ensures inv.cut inv.bounded _ c.word_at.ensures
+    c.split_at.ensures.front c.split_at.ensures.back in
     omega (arith, f.head, c.word_at-head.ensures, inv.sweeping.as_long, c.requires.2)
 
 pub slice_bounds-stands-count : goal.slice_bounds-stands-count
 slice_bounds-stands-count c =
     let inv = c.loop-rest.invariant in
-    let some : length c.loop-rest.rest.now ≡ 0 → ⊥ = eqb-false _ _ (sym c.is_empty.ensures ∙ c.loop-rest-test.true) in
-    let f = clause-first c.loop-rest.rest.now some inv.cut inv.bounded _ c.word_at.ensures c.split_at.ensures.front
-    c.split_at.ensures.back in
+    let f = clause-first c.loop-rest.rest.now c.loop-rest-test.ensures inv.cut inv.bounded _ c.word_at.ensures
+    c.split_at.ensures.front c.split_at.ensures.back in
     f.long
 
 pub slice_bounds-stands-start : goal.slice_bounds-stands-start
 slice_bounds-stands-start c =
     let inv = c.loop-rest.invariant in
-    let some : length c.loop-rest.rest.now ≡ 0 → ⊥ = eqb-false _ _ (sym c.is_empty.ensures ∙ c.loop-rest-test.true) in
-    let f = clause-first c.loop-rest.rest.now some inv.cut inv.bounded _ c.word_at.ensures c.split_at.ensures.front
-    c.split_at.ensures.back in
+    let f = clause-first c.loop-rest.rest.now c.loop-rest-test.ensures inv.cut inv.bounded _ c.word_at.ensures
+    c.split_at.ensures.front c.split_at.ensures.back in
     f.long
 
 pub stands-requires : goal.stands-requires
 stands-requires c =
     let inv = c.loop-rest.invariant in
-    let some : length c.loop-rest.rest.now ≡ 0 → ⊥ = eqb-false _ _ (sym c.is_empty.ensures ∙ c.loop-rest-test.true) in
-    let f = clause-first c.loop-rest.rest.now some inv.cut inv.bounded _ c.word_at.ensures c.split_at.ensures.front
-    c.split_at.ensures.back in
+    let f = clause-first c.loop-rest.rest.now c.loop-rest-test.ensures inv.cut inv.bounded _ c.word_at.ensures
+    c.split_at.ensures.front c.split_at.ensures.back in
     (rw (rest_of c.split_at.result.0.now 4) f.body, omega (arith, inv.sweeping.as_long, c.requires.2))
 
 pub loop-rest-preserved-then-stands : goal.loop-rest-preserved-then-stands
 loop-rest-preserved-then-stands c =
     let inv = c.loop-rest.invariant in
-    let some : length c.loop-rest.rest.now ≡ 0 → ⊥ = eqb-false _ _ (sym c.is_empty.ensures ∙ c.loop-rest-test.true) in
-    let f = clause-first c.loop-rest.rest.now some inv.cut inv.bounded _ c.word_at.ensures c.split_at.ensures.front
-    c.split_at.ensures.back in
+    let f = clause-first c.loop-rest.rest.now c.loop-rest-test.ensures inv.cut inv.bounded _ c.word_at.ensures
+    c.split_at.ensures.front c.split_at.ensures.back in
     record {
       within = omega (arith, inv.within, c.split_at.ensures.back_len);
       cut = f.cut;
@@ -96,9 +86,8 @@ loop-rest-preserved-then-stands c =
 pub loop-rest-preserved : goal.loop-rest-preserved
 loop-rest-preserved c =
     let inv = c.loop-rest.invariant in
-    let some : length c.loop-rest.rest.now ≡ 0 → ⊥ = eqb-false _ _ (sym c.is_empty.ensures ∙ c.loop-rest-test.true) in
-    let f = clause-first c.loop-rest.rest.now some inv.cut inv.bounded _ c.word_at.ensures c.split_at.ensures.front
-    c.split_at.ensures.back in
+    let f = clause-first c.loop-rest.rest.now c.loop-rest-test.ensures inv.cut inv.bounded _ c.word_at.ensures
+    c.split_at.ensures.front c.split_at.ensures.back in
     record {
       within = omega (arith, inv.within, c.split_at.ensures.back_len);
       cut = f.cut;

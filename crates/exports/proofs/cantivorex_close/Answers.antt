@@ -1,5 +1,7 @@
 -- `cantivorex_close` meets its contract: the room for the rounds, then closing's answer.
+use mathlib.Core.Path.{ap}
 use Rattle.std.proofs.Common.{arith}
+use Rattle.records.specs.Refusals.{numbered}
 use Rattle.exports.proofs.Answers.{no_rounds, some-rounds, refused}
 use Rattle.exports.proofs.cantivorex_close.Goals as goal
 
@@ -10,9 +12,10 @@ returns-then-out-lt1 c =
 pub returns-in-Ok : goal.returns-in-Ok
 returns-in-Ok c =
     some-rounds c.args.model.now c.args.state.now c.args.table.now _ c.args.out.now _ _ (omega arith)
-    c.close.ensures c.in-Ok.is
+    c.close.ensures (ap numbered c.in-Ok.is)
 
 pub returns-in-Err : goal.returns-in-Err
 returns-in-Err c =
-    refused c.args.model.now c.args.state.now c.args.table.now _ c.args.out.now _ _ (omega arith)
-    c.close.ensures c.in-Err.is
+    rw (c.number.ensures)
+    (refused c.args.model.now c.args.state.now c.args.table.now _ c.args.out.now _ _ (omega arith)
+    c.close.ensures (ap numbered c.in-Err.is))

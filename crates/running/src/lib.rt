@@ -87,7 +87,7 @@ fn ask(
     ensures { Asked (aimed model.now trace.now) (numbered table.now)
         (names_in names.now) kept.old (ending_of result) }
 {
-    if codes.len() == 0 {
+    if codes.is_empty() {
         return ask_state(model, trace, table, names);
     }
     if past::advance(codes, table, kept) {

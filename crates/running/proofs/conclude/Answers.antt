@@ -1,0 +1,23 @@
+-- The end, and the verdict of it.
+use Rattle.std.proofs.Common.{arith}
+use Rattle.files.proofs.Traces.{pair_shape}
+use Rattle.running.proofs.Ends.{held-is}
+use Rattle.running.proofs.conclude.Goals as goal
+
+pub verdict_of-requires : goal.verdict_of-requires
+verdict_of-requires c =
+    let ended = c.finish-ended.ensures in
+    let table = ended.left.rounds in (
+      c.requires.0.fine,
+      record {
+        within = ended.within;
+        ending = ended.ending;
+        step = ended.step;
+        rounds = ended.rounds;
+        held-is = held-is _ _ (pair_shape _ _ c.requires.0.fine) _ ended.left.facts c.count.ensures;
+      },
+      record { long = omega (arith, table.as_long, c.requires.0.entries); entries = table.entries },
+    )
+
+pub returns : goal.returns
+returns c = (c.verdict_of.ensures, c.finish-ended.ensures.left)

@@ -14,6 +14,7 @@ ghost use Rattle.reaching.specs.Reaching.{Ready, aimed, StepsTo};
 ghost use Rattle.running.specs.Outcomes.{outcome, ran, Left};
 ghost use Rattle.running.specs.Running.{ending_of, Asked, Shows, Numbers, EndsAs};
 
+use closing::Index;
 use files::{Part, held, trace};
 use reaching::Steps;
 use records::Kind;
@@ -107,15 +108,13 @@ fn finish(
     table: &mut [u16],
     names: &[u8],
     kept: &mut [u8],
-    index: &[u16],
-    ends: &[u16],
-    starts: &[u16],
+    index: Index,
 ) -> Ended
     requires { Ready model.now trace.now (record { state = state.now; table = table.old; names = names.now })
         × StepsTo model.now trace.now (record { state = state.now; table = table.old; names = names.now })
         (record { state = state.now; table = table.old; names = names.now }) kept.old reached
         × GoalCodes model.now (trace_of trace.now).goal codes.now
-        × Way model.now index.now ends.now starts.now }
+        × Way model.now index.entries.now index.ends.now index.starts.now }
     ensures { EndsAs model.now trace.now
         (record { state = state.entry.now; table = table.old; names = names.now })
         (record { state = state.entry.now; table = table.new; names = names.now }) result }
@@ -127,7 +126,7 @@ fn finish(
             rounds: reached.rounds,
         },
         None => {
-            let rounds = closing::close_judged(model, state, table, index, ends, starts);
+            let rounds = closing::close_judged(model, state, table, index);
             Ended {
                 ending: ask(model, trace, codes, table, names, kept),
                 step: reached.fired,
@@ -208,22 +207,20 @@ fn conclude(
     table: &mut [u16],
     names: &[u8],
     kept: &mut [u8],
-    index: &[u16],
-    ends: &[u16],
-    starts: &[u16],
+    index: Index,
 ) -> Verdict
     requires { Ready model.now trace.now (record { state = state.now; table = table.old; names = names.now })
         × StepsTo model.now trace.now (record { state = state.now; table = table.old; names = names.now })
         (record { state = state.now; table = table.old; names = names.now }) kept.old reached
         × GoalCodes model.now (trace_of trace.now).goal codes.now
-        × Way model.now index.now ends.now starts.now }
+        × Way model.now index.entries.now index.ends.now index.starts.now }
     ensures { (result ≡ ran model.now trace.now (outcome model.now trace.now))
         × Left (model_of_lem model.now) (outcome model.now trace.now)
         (record { state = state.entry.now; table = table.old; names = names.now })
         (record { state = state.entry.now; table = table.new; names = names.now }) }
 {
     let ended = finish(
-        model, trace, codes, reached, state, table, names, kept, index, ends, starts,
+        model, trace, codes, reached, state, table, names, kept, index,
     );
     verdict_of(model, trace, ended, facts::count(state, 512), table)
 }
@@ -246,14 +243,16 @@ pub fn run_swept(
         (record { state = state.exit.now; table = table.new; names = names.new }) }
 {
     let empty = [0u16; 1];
-    let none = &empty[..0];
+    let index = Index {
+        entries: &empty[..0],
+        ends: &empty[..0],
+        starts: &empty[..0],
+    };
     let codes = reaching::goal_codes(model, trace);
     let mut kept = [0u8; 32];
-    let reached = reaching::reach(
-        model, trace, codes, state, table, names, &mut kept, none, none, none,
-    );
+    let reached = reaching::reach(model, trace, codes, state, table, names, &mut kept, index);
     conclude(
-        model, trace, codes, reached, state, table, names, &mut kept, none, none, none,
+        model, trace, codes, reached, state, table, names, &mut kept, index,
     )
 }
 
@@ -277,31 +276,15 @@ pub fn run_indexed(
     let mut ends = [0u16; 4097];
     let mut starts = [0u16; 4096];
     let n = closing::build_index(model, index, &mut ends, &mut starts);
+    let index = Index {
+        entries: index,
+        ends: &ends,
+        starts: &starts[..n],
+    };
     let codes = reaching::goal_codes(model, trace);
     let mut bits = [0u8; 32];
-    let reached = reaching::reach(
-        model,
-        trace,
-        codes,
-        state,
-        table,
-        names,
-        &mut bits,
-        index,
-        &ends,
-        &starts[..n],
-    );
+    let reached = reaching::reach(model, trace, codes, state, table, names, &mut bits, index);
     conclude(
-        model,
-        trace,
-        codes,
-        reached,
-        state,
-        table,
-        names,
-        &mut bits,
-        index,
-        &ends,
-        &starts[..n],
+        model, trace, codes, reached, state, table, names, &mut bits, index,
     )
 }

@@ -28,6 +28,7 @@ pub use worklist::{Index, Worked};
 // The state's bytes: eight facts each.
 const BYTES: usize = 512;
 
+// None's number in the table, which is what C callers are handed: so it stays a number.
 const OUTSIDE: u16 = 65535;
 
 // No fact: closing for it goes through all rounds. The worklist takes the fact that is asked for as a number.
@@ -232,7 +233,7 @@ pub fn no_places(model: &[u8], clauses: usize, index: &[u16]) -> bool
 }
 
 // Builds the index of a judged model's clauses, for which it has room, with ends that are zeros; answers how many
-// clauses there are.
+// clauses there are. The two arrays are the caller's own, who lends them on: there is no heap for them.
 pub fn build_index(
     model: &[u8],
     index: &mut [u16],
@@ -274,7 +275,7 @@ fn close_built(
 }
 
 // Closing called by itself with an index lent: as without one, and it answers the body places crossed too; the index
-// then holds each body place's clause number, by fact and then clause.
+// then holds each body place's clause number, by fact and then clause. It is a second function since C calls both.
 pub fn close_indexed(
     model: &[u8],
     state: &[u8],

@@ -18,7 +18,7 @@ use files::{Counts, both, held};
 use records::Refusal;
 use stepping::conditions;
 
-// The fact's round number, 65,535 where it is absent, and the rounds run on the last state.
+// The fact's round number, 65,535 where it is absent, as C is handed it, and the rounds run on the last state.
 #[derive(Clone, Copy)]
 pub struct Held {
     pub round: usize,

@@ -71,6 +71,7 @@ fn search(
             n: held::rule_list(model, rule, 1),
             names: held::made(model, rule),
         };
+        // By number: `nth` goes over the three lists as one.
         for i in 0..lists.count() {
             let c = lists.nth(i);
             if !conditions::meets(table, names, c) {

@@ -17,13 +17,14 @@ ghost use Rattle.running.specs.Running.{ending_of, Asked, Shows, Numbers, EndsAs
 use closing::Index;
 use files::{Part, held, trace};
 use reaching::Steps;
-use records::Kind;
+use records::{Kind, Refusal};
 use sections::Role;
 use stepping::conditions;
 use stepping::conditions::{Condition, Lists};
 
 // Document 01's verdict: its number and the values that the line shows, and the part at fault. An unmet condition has a
-// kind, 1 positive or 2 negative, and a negative one the round in which its fact arose; 0 and 65,535 stand for none.
+// kind, 1 positive or 2 negative, and a negative one the round in which its fact arose; 0 and 65,535 stand for none. All
+// are numbers, since C is handed them as they are.
 #[derive(Clone, Copy)]
 pub struct Verdict {
     pub number: u8,
@@ -175,7 +176,7 @@ fn verdict_of(model: &[u8], trace: &[u8], ended: Ended, held: usize, table: &[u1
             part: trace::entry_part(trace, 1 + step),
         },
         Ending::NotMet(c) => Verdict {
-            number: 11,
+            number: Refusal::NoAttack.number(),
             step,
             fact: conditions::fact_of(c),
             rounds,
@@ -185,7 +186,7 @@ fn verdict_of(model: &[u8], trace: &[u8], ended: Ended, held: usize, table: &[u1
             part: held::goal_part(model, reaching::goal_of(trace)),
         },
         Ending::Upheld => Verdict {
-            number: 11,
+            number: Refusal::NoAttack.number(),
             step,
             fact: 65535,
             rounds,

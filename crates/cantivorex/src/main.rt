@@ -136,7 +136,7 @@ fn print_line(rt: &impl Print, v: Verdict) -> io::Result<()> {
 }
 
 // A file's buffer has one byte more than its bound, so that a file over the bound is seen to be over it. The index has
-// room for every model: a body place takes 2 of its bytes.
+// room for every model: a body place takes 2 of its bytes. There is no heap: each buffer is cut to what was read.
 fn main(rt: HostRuntime) {
     let mut model = [0u8; 65537];
     let mut trace = [0u8; 4097];

@@ -99,7 +99,7 @@ fn check_built(
 
 // The verdict on a model and a trace, with an index lent: as without one, and the index then holds each body place's
 // clause number, by fact and then clause. With fewer entries than the model has body places it is refused, before the
-// trace's own numbers.
+// trace's own numbers. It is a second function since C calls both.
 pub fn check_indexed(
     model: &[u8],
     trace: &[u8],

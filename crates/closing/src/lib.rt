@@ -23,12 +23,12 @@ ghost use Rattle.closing.specs.Sweep.{Eight, stored, Body, up_to, swept, adds};
 use files::{held, model};
 use records::Refusal;
 use sections::Role;
-use worklist::Index;
-pub use worklist::Worked;
+pub use worklist::{Index, Worked};
 
 // The state's bytes: eight facts each.
 const BYTES: usize = 512;
 
+// None's number in the table, which is what C callers are handed: so it stays a number.
 const OUTSIDE: u16 = 65535;
 
 // No fact: closing for it goes through all rounds. The worklist takes the fact that is asked for as a number.
@@ -157,46 +157,31 @@ pub fn close_worked(
     model: &[u8],
     state: &[u8],
     table: &mut [u16],
-    index: &[u16],
-    ends: &[u16],
-    starts: &[u16],
+    index: Index,
     asked: usize,
 ) -> Worked
     requires { (shape_fault model.now ≡ none) × (4096 ≤ length table.old)
-        × Listed (model_of_lem model.now).clauses index.now ends.now
-        × Placed (section_of model.now Role.Clauses) starts.now }
+        × Listed (model_of_lem model.now).clauses index.entries.now index.ends.now
+        × Placed (section_of model.now Role.Clauses) index.starts.now }
     ensures { WorksFor (model_of_lem model.now).clauses (members state.now) asked
         table.old table.new result }
 {
     start(state, table);
-    let index = Index {
-        entries: index,
-        ends,
-        starts,
-    };
     worklist::run(held::section(model, Role::Clauses), table, index, asked)
 }
 
-// The rounds of a state under a judged model's clauses, by the way that is lent: sweeps where no starts are, else the
-// index. The caller has judged the model and lends at least 4,096 entries.
-pub fn close_judged(
-    model: &[u8],
-    state: &[u8],
-    table: &mut [u16],
-    index: &[u16],
-    ends: &[u16],
-    starts: &[u16],
-) -> usize
+// The rounds of a state under a judged model's clauses, by the way that is lent: sweeps where the index has no
+// starts, else the index. The caller has judged the model and lends at least 4,096 entries.
+pub fn close_judged(model: &[u8], state: &[u8], table: &mut [u16], index: Index) -> usize
     requires { (shape_fault model.now ≡ none) × (4096 ≤ length table.old)
-        × Way model.now index.now ends.now starts.now }
+        × Way model.now index.entries.now index.ends.now index.starts.now }
     ensures { ClosesUnder (model_of_lem model.now).clauses state.now table.old
         table.new result }
 {
-    if starts.len() <= FEW {
+    if index.starts.len() <= FEW {
         return close_swept(model, state, table);
     }
-    let worked = close_worked(model, state, table, index, ends, starts, NO_FACT);
-    worked.rounds
+    close_worked(model, state, table, index, NO_FACT).rounds
 }
 
 // Refuses a state with a fact of F or more.
@@ -248,7 +233,7 @@ pub fn no_places(model: &[u8], clauses: usize, index: &[u16]) -> bool
 }
 
 // Builds the index of a judged model's clauses, for which it has room, with ends that are zeros; answers how many
-// clauses there are.
+// clauses there are. The two arrays are the caller's own, who lends them on: there is no heap for them.
 pub fn build_index(
     model: &[u8],
     index: &mut [u16],
@@ -281,12 +266,16 @@ fn close_built(
     let mut ends = [0u16; 4097];
     let mut starts = [0u16; 4096];
     let n = build_index(model, index, &mut ends, &mut starts);
-    let worked = close_worked(model, state, table, index, &ends, &starts[..n], NO_FACT);
-    Ok(worked)
+    let index = Index {
+        entries: index,
+        ends: &ends,
+        starts: &starts[..n],
+    };
+    Ok(close_worked(model, state, table, index, NO_FACT))
 }
 
 // Closing called by itself with an index lent: as without one, and it answers the body places crossed too; the index
-// then holds each body place's clause number, by fact and then clause.
+// then holds each body place's clause number, by fact and then clause. It is a second function since C calls both.
 pub fn close_indexed(
     model: &[u8],
     state: &[u8],

@@ -1,5 +1,6 @@
 // The library for C and Rust: seven functions on numbers and slices. None has a requires; that the areas lent are there
-// is the caller's to see to. include/cantivorex.h declares them for C.
+// is the caller's to see to. include/cantivorex.h declares them for C, which has a name for each form with an index
+// and without, and is answered document 01's numbers.
 
 #![tactic(auto)]
 

@@ -13,11 +13,12 @@ ghost use Rattle.reaching.specs.Reaching.{Ready};
 ghost use Rattle.checking.specs.Passing.{Passed};
 ghost use Rattle.holding.specs.Holding.{Asks, HoldsIn};
 
+use closing::Index;
 use files::{Counts, both, held};
 use records::Refusal;
 use stepping::conditions;
 
-// The fact's round number, 65,535 where it is absent, and the rounds run on the last state.
+// The fact's round number, 65,535 where it is absent, as C is handed it, and the rounds run on the last state.
 #[derive(Clone, Copy)]
 pub struct Held {
     pub round: usize,
@@ -32,26 +33,22 @@ fn run_for(
     state: &mut [u8],
     table: &mut [u16],
     names: &mut [u8],
-    index: &[u16],
-    ends: &[u16],
-    starts: &[u16],
+    index: Index,
 ) -> Result<Held, Refusal>
     requires { Ready model.now trace.now (record { state = state.now; table = table.old; names = names.old })
-        × Listed (model_of_lem model.now).clauses index.now ends.now
-        × Placed (section_of model.now Role.Clauses) starts.now × (asked < 4096) }
+        × Listed (model_of_lem model.now).clauses index.entries.now index.ends.now
+        × Placed (section_of model.now Role.Clauses) index.starts.now × (asked < 4096) }
     ensures { Asks model.now trace.now asked
         (record { state = state.entry.now; table = table.old; names = names.old })
         (record { state = state.exit.now; table = table.new; names = names.new }) (by_number result) }
 {
     let codes = reaching::goal_codes(model, trace);
     let mut kept = [0u8; 32];
-    let reached = reaching::reach(
-        model, trace, codes, state, table, names, &mut kept, index, ends, starts,
-    );
+    let reached = reaching::reach(model, trace, codes, state, table, names, &mut kept, index);
     match reached.stop {
         Some(c) => Err(conditions::refusal_of(c)),
         None => {
-            let worked = closing::close_worked(model, state, table, index, ends, starts, asked);
+            let worked = closing::close_worked(model, state, table, index, asked);
             Ok(Held {
                 round: table[asked] as usize,
                 rounds: worked.rounds,
@@ -80,17 +77,12 @@ fn run_built(
     let mut ends = [0u16; 4097];
     let mut starts = [0u16; 4096];
     let n = closing::build_index(model, index, &mut ends, &mut starts);
-    run_for(
-        model,
-        trace,
-        asked,
-        state,
-        table,
-        names,
-        index,
-        &ends,
-        &starts[..n],
-    )
+    let index = Index {
+        entries: index,
+        ends: &ends,
+        starts: &starts[..n],
+    };
+    run_for(model, trace, asked, state, table, names, index)
 }
 
 // Whether the fact holds, for a pair whose files have passed, but for the trace's own numbers, with a model of so many

@@ -12,6 +12,7 @@ ghost use Rattle.files.specs.Known.{GoalCodes};
 ghost use Rattle.closing.specs.Closing.{Way};
 ghost use Rattle.reaching.specs.Reaching.{Ready, state_in, aimed, Keeps, StepsTo};
 
+use closing::Index;
 use files::held;
 use records::Numbers;
 use sections::Role;
@@ -45,15 +46,13 @@ fn search(
     table: &mut [u16],
     names: &mut [u8],
     kept: &mut [u8],
-    index: &[u16],
-    ends: &[u16],
-    starts: &[u16],
+    index: Index,
 ) -> Steps
     requires { Ready model.now trace.now (record { state = state.now; table = table.old; names = names.old })
         × (state_in (record { state = state.now; table = table.old; names = names.old }) ≡ start (model_of_lem model.now))
         × GoalCodes model.now (trace_of trace.now).goal codes.now
         × Keeps (aimed model.now trace.now) [] kept.old
-        × Way model.now index.now ends.now starts.now }
+        × Way model.now index.entries.now index.ends.now index.starts.now }
     ensures { StepsTo model.now trace.now
         (record { state = state.entry.now; table = table.old; names = names.old })
         (record { state = state.exit.now; table = table.new; names = names.new })
@@ -65,13 +64,14 @@ fn search(
     let mut rounds = 0;
     let mut stop = None;
     'search: for k in Numbers(&entries[2..]) {
-        rounds += closing::close_judged(model, state, table, index, ends, starts);
+        rounds += closing::close_judged(model, state, table, index);
         let rule = held::record(model, Role::Rules, k);
         let lists = Lists {
             p: held::rule_list(model, rule, 0),
             n: held::rule_list(model, rule, 1),
             names: held::made(model, rule),
         };
+        // By number: `nth` goes over the three lists as one.
         for i in 0..lists.count() {
             let c = lists.nth(i);
             if !conditions::meets(table, names, c) {
@@ -110,14 +110,12 @@ pub fn reach(
     table: &mut [u16],
     names: &mut [u8],
     kept: &mut [u8],
-    index: &[u16],
-    ends: &[u16],
-    starts: &[u16],
+    index: Index,
 ) -> Steps
     requires { Ready model.now trace.now (record { state = state.now; table = table.old; names = names.old })
         × GoalCodes model.now (trace_of trace.now).goal codes.now
         × Keeps (aimed model.now trace.now) [] kept.old
-        × Way model.now index.now ends.now starts.now }
+        × Way model.now index.entries.now index.ends.now index.starts.now }
     ensures { StepsTo model.now trace.now
         (record { state = state.entry.now; table = table.old; names = names.old })
         (record { state = state.exit.now; table = table.new; names = names.new })
@@ -129,7 +127,5 @@ pub fn reach(
         state,
         names,
     );
-    search(
-        model, trace, codes, state, table, names, kept, index, ends, starts,
-    )
+    search(model, trace, codes, state, table, names, kept, index)
 }

@@ -14,15 +14,17 @@ ghost use Rattle.reaching.specs.Reaching.{Ready, aimed, StepsTo};
 ghost use Rattle.running.specs.Outcomes.{outcome, ran, Left};
 ghost use Rattle.running.specs.Running.{ending_of, Asked, Shows, Numbers, EndsAs};
 
+use closing::Index;
 use files::{Part, held, trace};
 use reaching::Steps;
-use records::Kind;
+use records::{Kind, Refusal};
 use sections::Role;
 use stepping::conditions;
 use stepping::conditions::{Condition, Lists};
 
 // Document 01's verdict: its number and the values that the line shows, and the part at fault. An unmet condition has a
-// kind, 1 positive or 2 negative, and a negative one the round in which its fact arose; 0 and 65,535 stand for none.
+// kind, 1 positive or 2 negative, and a negative one the round in which its fact arose; 0 and 65,535 stand for none. All
+// are numbers, since C is handed them as they are.
 #[derive(Clone, Copy)]
 pub struct Verdict {
     pub number: u8,
@@ -107,15 +109,13 @@ fn finish(
     table: &mut [u16],
     names: &[u8],
     kept: &mut [u8],
-    index: &[u16],
-    ends: &[u16],
-    starts: &[u16],
+    index: Index,
 ) -> Ended
     requires { Ready model.now trace.now (record { state = state.now; table = table.old; names = names.now })
         × StepsTo model.now trace.now (record { state = state.now; table = table.old; names = names.now })
         (record { state = state.now; table = table.old; names = names.now }) kept.old reached
         × GoalCodes model.now (trace_of trace.now).goal codes.now
-        × Way model.now index.now ends.now starts.now }
+        × Way model.now index.entries.now index.ends.now index.starts.now }
     ensures { EndsAs model.now trace.now
         (record { state = state.entry.now; table = table.old; names = names.now })
         (record { state = state.entry.now; table = table.new; names = names.now }) result }
@@ -127,7 +127,7 @@ fn finish(
             rounds: reached.rounds,
         },
         None => {
-            let rounds = closing::close_judged(model, state, table, index, ends, starts);
+            let rounds = closing::close_judged(model, state, table, index);
             Ended {
                 ending: ask(model, trace, codes, table, names, kept),
                 step: reached.fired,
@@ -176,7 +176,7 @@ fn verdict_of(model: &[u8], trace: &[u8], ended: Ended, held: usize, table: &[u1
             part: trace::entry_part(trace, 1 + step),
         },
         Ending::NotMet(c) => Verdict {
-            number: 11,
+            number: Refusal::NoAttack.number(),
             step,
             fact: conditions::fact_of(c),
             rounds,
@@ -186,7 +186,7 @@ fn verdict_of(model: &[u8], trace: &[u8], ended: Ended, held: usize, table: &[u1
             part: held::goal_part(model, reaching::goal_of(trace)),
         },
         Ending::Upheld => Verdict {
-            number: 11,
+            number: Refusal::NoAttack.number(),
             step,
             fact: 65535,
             rounds,
@@ -208,22 +208,20 @@ fn conclude(
     table: &mut [u16],
     names: &[u8],
     kept: &mut [u8],
-    index: &[u16],
-    ends: &[u16],
-    starts: &[u16],
+    index: Index,
 ) -> Verdict
     requires { Ready model.now trace.now (record { state = state.now; table = table.old; names = names.now })
         × StepsTo model.now trace.now (record { state = state.now; table = table.old; names = names.now })
         (record { state = state.now; table = table.old; names = names.now }) kept.old reached
         × GoalCodes model.now (trace_of trace.now).goal codes.now
-        × Way model.now index.now ends.now starts.now }
+        × Way model.now index.entries.now index.ends.now index.starts.now }
     ensures { (result ≡ ran model.now trace.now (outcome model.now trace.now))
         × Left (model_of_lem model.now) (outcome model.now trace.now)
         (record { state = state.entry.now; table = table.old; names = names.now })
         (record { state = state.entry.now; table = table.new; names = names.now }) }
 {
     let ended = finish(
-        model, trace, codes, reached, state, table, names, kept, index, ends, starts,
+        model, trace, codes, reached, state, table, names, kept, index,
     );
     verdict_of(model, trace, ended, facts::count(state, 512), table)
 }
@@ -246,14 +244,16 @@ pub fn run_swept(
         (record { state = state.exit.now; table = table.new; names = names.new }) }
 {
     let empty = [0u16; 1];
-    let none = &empty[..0];
+    let index = Index {
+        entries: &empty[..0],
+        ends: &empty[..0],
+        starts: &empty[..0],
+    };
     let codes = reaching::goal_codes(model, trace);
     let mut kept = [0u8; 32];
-    let reached = reaching::reach(
-        model, trace, codes, state, table, names, &mut kept, none, none, none,
-    );
+    let reached = reaching::reach(model, trace, codes, state, table, names, &mut kept, index);
     conclude(
-        model, trace, codes, reached, state, table, names, &mut kept, none, none, none,
+        model, trace, codes, reached, state, table, names, &mut kept, index,
     )
 }
 
@@ -277,31 +277,15 @@ pub fn run_indexed(
     let mut ends = [0u16; 4097];
     let mut starts = [0u16; 4096];
     let n = closing::build_index(model, index, &mut ends, &mut starts);
+    let index = Index {
+        entries: index,
+        ends: &ends,
+        starts: &starts[..n],
+    };
     let codes = reaching::goal_codes(model, trace);
     let mut bits = [0u8; 32];
-    let reached = reaching::reach(
-        model,
-        trace,
-        codes,
-        state,
-        table,
-        names,
-        &mut bits,
-        index,
-        &ends,
-        &starts[..n],
-    );
+    let reached = reaching::reach(model, trace, codes, state, table, names, &mut bits, index);
     conclude(
-        model,
-        trace,
-        codes,
-        reached,
-        state,
-        table,
-        names,
-        &mut bits,
-        index,
-        &ends,
-        &starts[..n],
+        model, trace, codes, reached, state, table, names, &mut bits, index,
     )
 }

@@ -17,4 +17,4 @@ build_index-n-requires c = (c.requires.0, c.requires.1, c.requires.3, cleared, r
 pub returns : goal.returns
 returns c =
     crosses_worked _ _ _ _ (sym c.in_ok-known_facts.ensures)
-    (works-whole _ _ c.requires.0 c.close_worked-worked.ensures) c.build_index-n.ensures.holds
+    (works-whole _ _ c.requires.0 c.close_worked.ensures) c.build_index-n.ensures.holds

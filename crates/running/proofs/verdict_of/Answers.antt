@@ -68,11 +68,13 @@ returns-in-Blocked c =
 pub returns-in-NotMet : goal.returns-in-NotMet
 returns-in-NotMet c =
     let known = known_not_met _ _ c.requires.0 c.requires.1 _ c.in-NotMet.is in
-    ran-not_met _ _ _ _ c.requires.1 _ c.fact_of-in-NotMet.ensures c.kind_of-in-NotMet.ensures
+    rw (c.number-in-NotMet.ensures)
+    (ran-not_met _ _ _ _ c.requires.1 _ c.fact_of-in-NotMet.ensures c.kind_of-in-NotMet.ensures
     (c.round_of-in-NotMet.ensures ∙ round_is _ _ c.requires.2 _ known) c.in-NotMet.is
-    (c.goal_part.ensures ∙ ap (goal_part_lem c.args.model.now) c.goal_of.ensures)
+    (c.goal_part.ensures ∙ ap (goal_part_lem c.args.model.now) c.goal_of.ensures))
 
 pub returns-in-Upheld : goal.returns-in-Upheld
 returns-in-Upheld c =
-    ran-upheld _ _ _ _ c.requires.1 c.in-Upheld.is
-    (c.goal_part-in-Upheld.ensures ∙ ap (goal_part_lem c.args.model.now) c.goal_of-in-Upheld.ensures)
+    rw (c.number-in-Upheld.ensures)
+    (ran-upheld _ _ _ _ c.requires.1 c.in-Upheld.is
+    (c.goal_part-in-Upheld.ensures ∙ ap (goal_part_lem c.args.model.now) c.goal_of-in-Upheld.ensures))

@@ -19,7 +19,8 @@ use sections::Role;
 use stepping::conditions;
 use stepping::conditions::{Condition, Lists};
 
-// What is lent for a run: the state, its round numbers, and its used names.
+// What is lent for a run: the state, its round numbers, and its used names. A function that reads one of them while it
+// writes another takes each out first: through the struct that isn't covered yet.
 #[derive(Drop)]
 pub struct Buffers<'a, 'b, 'c> {
     pub state: &'a mut [u8],

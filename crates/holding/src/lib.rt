@@ -9,12 +9,13 @@ ghost use Rattle.sections.specs.declared.Role.{Role};
 ghost use Rattle.files.specs.Files.{section_of, model_of_lem};
 ghost use Rattle.worklist.specs.Working.{Placed, Listed};
 ghost use Rattle.closing.specs.Closing.{IndexHolds, no_places_lem};
-ghost use Rattle.reaching.specs.Reaching.{Ready};
+ghost use Rattle.reaching.specs.Reaching.{Ready, lent_of, SameBuffers};
 ghost use Rattle.checking.specs.Passing.{Passed};
 ghost use Rattle.holding.specs.Holding.{Asks, HoldsIn};
 
 use closing::Index;
 use files::{Counts, both, held};
+use reaching::Buffers;
 use records::Refusal;
 use stepping::conditions;
 
@@ -30,24 +31,23 @@ fn run_for(
     model: &[u8],
     trace: &[u8],
     asked: usize,
-    state: &mut [u8],
-    table: &mut [u16],
-    names: &mut [u8],
+    lent: &mut Buffers,
     index: Index,
 ) -> Result<Held, Refusal>
-    requires { Ready model.now trace.now (record { state = state.now; table = table.old; names = names.old })
+    requires { Ready model.now trace.now (lent_of lent.old)
         × Listed (model_of_lem model.now).clauses index.entries.now index.ends.now
         × Placed (section_of model.now Role.Clauses) index.starts.now × (asked < 4096) }
-    ensures { Asks model.now trace.now asked
-        (record { state = state.entry.now; table = table.old; names = names.old })
-        (record { state = state.exit.now; table = table.new; names = names.new }) (by_number result) }
+    ensures same_buffers { SameBuffers lent.old lent.new }
+    ensures asks { Asks model.now trace.now asked (lent_of lent.old) (lent_of lent.new) (by_number result) }
 {
     let codes = reaching::goal_codes(model, trace);
     let mut kept = [0u8; 32];
-    let reached = reaching::reach(model, trace, codes, state, table, names, &mut kept, index);
+    let reached = reaching::reach(model, trace, codes, lent, &mut kept, index);
     match reached.stop {
         Some(c) => Err(conditions::refusal_of(c)),
         None => {
+            let state = &mut *lent.state;
+            let table = &mut *lent.table;
             let worked = closing::close_worked(model, state, table, index, asked);
             Ok(Held {
                 round: table[asked] as usize,
@@ -62,16 +62,13 @@ fn run_built(
     model: &[u8],
     trace: &[u8],
     asked: usize,
-    state: &mut [u8],
-    table: &mut [u16],
-    names: &mut [u8],
+    lent: &mut Buffers,
     index: &mut [u16],
 ) -> Result<Held, Refusal>
-    requires { Ready model.now trace.now (record { state = state.now; table = table.old; names = names.old })
+    requires { Ready model.now trace.now (lent_of lent.old)
         × (no_places_lem model.now index.old ≡ false) × (asked < 4096) }
-    ensures { Asks model.now trace.now asked
-        (record { state = state.entry.now; table = table.old; names = names.old })
-        (record { state = state.exit.now; table = table.new; names = names.new }) (by_number result)
+    ensures same_buffers { SameBuffers lent.old lent.new }
+    ensures asks { Asks model.now trace.now asked (lent_of lent.old) (lent_of lent.new) (by_number result)
         × IndexHolds (model_of_lem model.now).clauses index.old index.new }
 {
     let mut ends = [0u16; 4097];
@@ -82,7 +79,7 @@ fn run_built(
         ends: &ends,
         starts: &starts[..n],
     };
-    run_for(model, trace, asked, state, table, names, index)
+    run_for(model, trace, asked, lent, index)
 }
 
 // Whether the fact holds, for a pair whose files have passed, but for the trace's own numbers, with a model of so many
@@ -111,7 +108,12 @@ fn holds_passed(
     if held::facts(model) <= asked {
         return Err(Refusal::Fact);
     }
-    run_built(model, trace, asked, state, table, names, index)
+    let mut lent = Buffers {
+        state,
+        table,
+        names,
+    };
+    run_built(model, trace, asked, &mut lent, index)
 }
 
 // Whether a fact holds after all steps: held with its round number, or absent, and the rounds run on the last state; or

@@ -12,6 +12,7 @@ use Rattle.closing.specs.Closing.{Filled}
 use Rattle.past.specs.Remembering.{Remembers}
 use Rattle.stepping.specs.Conditions.{names_in, unmet_in}
 use Rattle.reaching.specs.declared.Steps.{Steps}
+use Rattle.reaching.specs.declared.Buffers.{Buffers}
 
 -- the memory that a check is lent: the state's buffer, the round table and "a further lent 128 bytes" for names
 -- (document 02, wish 9)
@@ -19,6 +20,10 @@ pub record Lent : Type 0 where
   pub state : List ℕ
   pub table : List ℕ
   pub names : List ℕ
+
+-- what the code's buffers hold
+abbrev pub lent_of : Buffers → Lent
+lent_of b = record { state = b.state.now; table = b.table.now; names = b.names.now }
 
 -- ---- contracts between functions; no promise to the outside rests on these
 
@@ -28,6 +33,13 @@ pub record Ready (m t : List ℕ) (l : Lent) : Type 0 where
   pub room : 512 ≤ length l.state
   pub entries : 4096 ≤ length l.table
   pub names : 128 ≤ length l.names
+
+-- a struct of buffers still holds the same ones, whatever is now in them
+abbrev pub SameBuffers : Buffers → Buffers → Type 0
+SameBuffers b c =
+    (c.state.ghost_name ≡ b.state.ghost_name)
+    × (c.table.ghost_name ≡ b.table.ghost_name)
+    × (c.names.ghost_name ≡ b.names.ghost_name)
 
 -- the state that is in the buffers
 abbrev pub state_in : Lent → State

@@ -10,7 +10,7 @@ ghost use Rattle.sections.specs.Sections.{fits, section_at};
 ghost use Rattle.files.specs.Files.{pair_fault, model_of_lem, entries_of, trace_of};
 ghost use Rattle.files.specs.Known.{GoalCodes};
 ghost use Rattle.closing.specs.Closing.{Way};
-ghost use Rattle.reaching.specs.Reaching.{Ready, state_in, aimed, Keeps, StepsTo};
+ghost use Rattle.reaching.specs.Reaching.{Ready, lent_of, SameBuffers, state_in, aimed, Keeps, StepsTo};
 
 use closing::Index;
 use files::held;
@@ -18,6 +18,15 @@ use records::Numbers;
 use sections::Role;
 use stepping::conditions;
 use stepping::conditions::{Condition, Lists};
+
+// What is lent for a run: the state, its round numbers, and its used names. A function that reads one of them while it
+// writes another takes each out first: through the struct that isn't covered yet.
+#[derive(Drop)]
+pub struct Buffers<'a, 'b, 'c> {
+    pub state: &'a mut [u8],
+    pub table: &'b mut [u16],
+    pub names: &'c mut [u8],
+}
 
 // Where the steps led: how many fired, the rounds counted, and the condition that blocks the next step.
 #[derive(Clone, Copy)]
@@ -42,22 +51,21 @@ fn search(
     model: &[u8],
     trace: &[u8],
     codes: &[u8],
-    state: &mut [u8],
-    table: &mut [u16],
-    names: &mut [u8],
+    lent: &mut Buffers,
     kept: &mut [u8],
     index: Index,
 ) -> Steps
-    requires { Ready model.now trace.now (record { state = state.now; table = table.old; names = names.old })
-        × (state_in (record { state = state.now; table = table.old; names = names.old }) ≡ start (model_of_lem model.now))
+    requires { Ready model.now trace.now (lent_of lent.old)
+        × (state_in (lent_of lent.old) ≡ start (model_of_lem model.now))
         × GoalCodes model.now (trace_of trace.now).goal codes.now
         × Keeps (aimed model.now trace.now) [] kept.old
         × Way model.now index.entries.now index.ends.now index.starts.now }
-    ensures { StepsTo model.now trace.now
-        (record { state = state.entry.now; table = table.old; names = names.old })
-        (record { state = state.exit.now; table = table.new; names = names.new })
-        kept.new result }
+    ensures same_buffers { SameBuffers lent.old lent.new }
+    ensures steps { StepsTo model.now trace.now (lent_of lent.old) (lent_of lent.new) kept.new result }
 {
+    let state = &mut *lent.state;
+    let table = &mut *lent.table;
+    let names = &mut *lent.names;
     let entries = held::entries(trace);
     let persistent = held::section(model, Role::Persistent);
     let mut fired = 0;
@@ -106,26 +114,22 @@ pub fn reach(
     model: &[u8],
     trace: &[u8],
     codes: &[u8],
-    state: &mut [u8],
-    table: &mut [u16],
-    names: &mut [u8],
+    lent: &mut Buffers,
     kept: &mut [u8],
     index: Index,
 ) -> Steps
-    requires { Ready model.now trace.now (record { state = state.now; table = table.old; names = names.old })
+    requires { Ready model.now trace.now (lent_of lent.old)
         × GoalCodes model.now (trace_of trace.now).goal codes.now
         × Keeps (aimed model.now trace.now) [] kept.old
         × Way model.now index.entries.now index.ends.now index.starts.now }
-    ensures { StepsTo model.now trace.now
-        (record { state = state.entry.now; table = table.old; names = names.old })
-        (record { state = state.exit.now; table = table.new; names = names.new })
-        kept.new result }
+    ensures same_buffers { SameBuffers lent.old lent.new }
+    ensures steps { StepsTo model.now trace.now (lent_of lent.old) (lent_of lent.new) kept.new result }
 {
     stepping::begin(
         held::section(model, Role::Initial),
         held::names(model),
-        state,
-        names,
+        lent.state,
+        lent.names,
     );
-    search(model, trace, codes, state, table, names, kept, index)
+    search(model, trace, codes, lent, kept, index)
 }

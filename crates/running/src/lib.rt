@@ -10,13 +10,13 @@ ghost use Rattle.files.specs.Files.{pair_fault, model_of_lem, trace_of};
 ghost use Rattle.files.specs.Known.{GoalCodes};
 ghost use Rattle.closing.specs.Closing.{numbered, Way, IndexHolds, no_places_lem};
 ghost use Rattle.stepping.specs.Conditions.{names_in};
-ghost use Rattle.reaching.specs.Reaching.{Ready, aimed, StepsTo};
+ghost use Rattle.reaching.specs.Reaching.{Ready, lent_of, SameBuffers, aimed, StepsTo};
 ghost use Rattle.running.specs.Outcomes.{outcome, ran, Left};
 ghost use Rattle.running.specs.Running.{ending_of, Asked, Shows, Numbers, EndsAs};
 
 use closing::Index;
 use files::{Part, held, trace};
-use reaching::Steps;
+use reaching::{Buffers, Steps};
 use records::{Kind, Refusal};
 use sections::Role;
 use stepping::conditions;
@@ -105,21 +105,20 @@ fn finish(
     trace: &[u8],
     codes: &[u8],
     reached: Steps,
-    state: &[u8],
-    table: &mut [u16],
-    names: &[u8],
+    lent: &mut Buffers,
     kept: &mut [u8],
     index: Index,
 ) -> Ended
-    requires { Ready model.now trace.now (record { state = state.now; table = table.old; names = names.now })
-        × StepsTo model.now trace.now (record { state = state.now; table = table.old; names = names.now })
-        (record { state = state.now; table = table.old; names = names.now }) kept.old reached
+    requires { Ready model.now trace.now (lent_of lent.old)
+        × StepsTo model.now trace.now (lent_of lent.old) (lent_of lent.old) kept.old reached
         × GoalCodes model.now (trace_of trace.now).goal codes.now
         × Way model.now index.entries.now index.ends.now index.starts.now }
-    ensures { EndsAs model.now trace.now
-        (record { state = state.entry.now; table = table.old; names = names.now })
-        (record { state = state.entry.now; table = table.new; names = names.now }) result }
+    ensures same_buffers { SameBuffers lent.old lent.new }
+    ensures ends { EndsAs model.now trace.now (lent_of lent.old) (lent_of lent.new) result }
 {
+    let state = &mut *lent.state;
+    let table = &mut *lent.table;
+    let names = &mut *lent.names;
     match reached.stop {
         Some(c) => Ended {
             ending: Ending::Blocked(c),
@@ -204,25 +203,21 @@ fn conclude(
     trace: &[u8],
     codes: &[u8],
     reached: Steps,
-    state: &[u8],
-    table: &mut [u16],
-    names: &[u8],
+    lent: &mut Buffers,
     kept: &mut [u8],
     index: Index,
 ) -> Verdict
-    requires { Ready model.now trace.now (record { state = state.now; table = table.old; names = names.now })
-        × StepsTo model.now trace.now (record { state = state.now; table = table.old; names = names.now })
-        (record { state = state.now; table = table.old; names = names.now }) kept.old reached
+    requires { Ready model.now trace.now (lent_of lent.old)
+        × StepsTo model.now trace.now (lent_of lent.old) (lent_of lent.old) kept.old reached
         × GoalCodes model.now (trace_of trace.now).goal codes.now
         × Way model.now index.entries.now index.ends.now index.starts.now }
-    ensures { (result ≡ ran model.now trace.now (outcome model.now trace.now))
-        × Left (model_of_lem model.now) (outcome model.now trace.now)
-        (record { state = state.entry.now; table = table.old; names = names.now })
-        (record { state = state.entry.now; table = table.new; names = names.now }) }
+    ensures same_buffers { SameBuffers lent.old lent.new }
+    ensures verdict { (result ≡ ran model.now trace.now (outcome model.now trace.now))
+        × Left (model_of_lem model.now) (outcome model.now trace.now) (lent_of lent.old) (lent_of lent.new) }
 {
-    let ended = finish(
-        model, trace, codes, reached, state, table, names, kept, index,
-    );
+    let ended = finish(model, trace, codes, reached, lent, kept, index);
+    let state = &mut *lent.state;
+    let table = &mut *lent.table;
     verdict_of(model, trace, ended, facts::count(state, 512), table)
 }
 
@@ -251,10 +246,13 @@ pub fn run_swept(
     };
     let codes = reaching::goal_codes(model, trace);
     let mut kept = [0u8; 32];
-    let reached = reaching::reach(model, trace, codes, state, table, names, &mut kept, index);
-    conclude(
-        model, trace, codes, reached, state, table, names, &mut kept, index,
-    )
+    let mut lent = Buffers {
+        state,
+        table,
+        names,
+    };
+    let reached = reaching::reach(model, trace, codes, &mut lent, &mut kept, index);
+    conclude(model, trace, codes, reached, &mut lent, &mut kept, index)
 }
 
 // Runs a judged pair, by an index of the model's clauses, which is built once for all states.
@@ -284,8 +282,11 @@ pub fn run_indexed(
     };
     let codes = reaching::goal_codes(model, trace);
     let mut bits = [0u8; 32];
-    let reached = reaching::reach(model, trace, codes, state, table, names, &mut bits, index);
-    conclude(
-        model, trace, codes, reached, state, table, names, &mut bits, index,
-    )
+    let mut lent = Buffers {
+        state,
+        table,
+        names,
+    };
+    let reached = reaching::reach(model, trace, codes, &mut lent, &mut bits, index);
+    conclude(model, trace, codes, reached, &mut lent, &mut bits, index)
 }

@@ -1,6 +1,7 @@
 -- Room for the index, then the trace's faults, then the fact, then the run.
 use mathlib.Core.Path.{sym, ap, ◌∙◌}
 use native.Mathlib.Omega.{arith}
+use Rattle.std.proofs.Common.{rules}
 use borrow.Author.Tests.{le-leb, lt-leb}
 use Rattle.std.proofs.lemmas.Result.{err_from_is_err_and}
 use Rattle.files.specs.Answers.{counts_of}
@@ -50,6 +51,8 @@ run_built-requires c =
 pub returns : goal.returns
 returns c =
     let fine = (blamed_ok _ _ _ (c.in_ok-judge_steps.ensures ∙ steps-counted _ _ _ c.requires.counted)).0 in
-    let (asks, holds) = c.run_built.ensures in
+    let (asks, holds) = c.run_built.ensures.asks in
+    let whole =
     holds-ran _ _ _ _ _ c.requires.room c.requires.fine (sym c.no_places.ensures ∙ c.if-no_places.false) fine
-    (lt-leb _ _ (rw c.facts.ensures at c.if-facts-asked.false)) asks holds
+    (lt-leb _ _ (rw c.facts.ensures at c.if-facts-asked.false)) asks holds in
+    search rules

@@ -1,7 +1,5 @@
 -- The index is built, then the pair run by it.
-use mathlib.Core.Path.{refl, sym}
-use native.Mathlib.Omega.{arith}
-use lib.Seq.{length-take-le}
+use mathlib.Core.Path.{refl}
 use Rattle.files.proofs.Traces.{fine_pair}
 use Rattle.closing.proofs.Indexing.{cleared}
 use Rattle.holding.proofs.run_built.Goals as goal

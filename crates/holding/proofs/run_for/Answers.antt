@@ -21,7 +21,7 @@ reach-reached-requires c = (
 pub close_worked-worked-requires : goal.close_worked-worked-requires
 close_worked-worked-requires c = (
   pair_shape _ _ c.requires.0.fine,
-  omega (arith, c.reach-reached.ensures.as_long, c.requires.0.entries),
+  omega (arith, c.reach-reached.ensures.steps.as_long, c.requires.0.entries),
   c.requires.1,
   c.requires.2,
 )
@@ -32,14 +32,14 @@ bounds-table-asked c =
       arith,
       c.requires.3,
       c.close_worked-worked.ensures.as_long,
-      c.reach-reached.ensures.as_long,
+      c.reach-reached.ensures.steps.as_long,
       c.requires.0.entries,
     )
 
-pub returns-in-Some : goal.returns-in-Some
-returns-in-Some c =
-    asks-blocked _ _ c.reach-reached.ensures _ _ c.in-Some.is c.refusal_of.ensures
+pub returns-in-Some-clause-asks : goal.returns-in-Some-clause-asks
+returns-in-Some-clause-asks c =
+    asks-blocked _ _ c.reach-reached.ensures.steps _ _ c.in-Some.is c.refusal_of.ensures
 
-pub returns-in-None : goal.returns-in-None
-returns-in-None c =
-    asks-worked _ _ c.reach-reached.ensures _ c.in-None.is c.requires.3 c.close_worked-worked.ensures
+pub returns-in-None-clause-asks : goal.returns-in-None-clause-asks
+returns-in-None-clause-asks c =
+    asks-worked _ _ c.reach-reached.ensures.steps _ c.in-None.is c.requires.3 c.close_worked-worked.ensures

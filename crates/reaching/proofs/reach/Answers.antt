@@ -45,10 +45,10 @@ search-requires c =
       c.requires.3,
     )
 
-pub returns : goal.returns
-returns c =
+pub returns-clause-steps : goal.returns-clause-steps
+returns-clause-steps c =
     let began = c.begin.ensures in
-    let led = c.search.ensures in
+    let led = c.search.ensures.steps in
     record {
       fired = led.fired;
       stop = led.stop;

@@ -131,16 +131,16 @@ search-preserved c =
       unstopped = c.loop-i.invariant.unstopped;
     }
 
-pub returns-in-None : goal.returns-in-None
-returns-in-None c =
+pub returns-in-None-clause-steps : goal.returns-in-None-clause-steps
+returns-in-None-clause-steps c =
     let fired = c.search.fired in
     let ks = (trace_of c.args.trace.now).steps in
     let none_left = sym c.search.invariant.left ∙ c.in-None.ensures.steps.0 in
     on-end _ _ c.search.invariant.on (omega (arith, length-drop fired ks, ap length none_left)) refl refl
     (ap unmet_in c.search.invariant.unstopped)
 
-pub returns-then-not-meets : goal.returns-then-not-meets
-returns-then-not-meets c =
+pub returns-then-not-meets-clause-steps : goal.returns-then-not-meets-clause-steps
+returns-then-not-meets-clause-steps c =
     let on = c.search.invariant.on in
     let here = sym c.search.invariant.left ∙ c.in-Some.ensures.steps in
     let closed = c.close_judged-rounds.ensures in

@@ -6,7 +6,7 @@ use Rattle.running.proofs.conclude.Goals as goal
 
 pub verdict_of-requires : goal.verdict_of-requires
 verdict_of-requires c =
-    let ended = c.finish-ended.ensures in
+    let ended = c.finish-ended.ensures.ends in
     let table = ended.left.rounds in (
       c.requires.0.fine,
       record {
@@ -19,5 +19,5 @@ verdict_of-requires c =
       record { long = omega (arith, table.as_long, c.requires.0.entries); entries = table.entries },
     )
 
-pub returns : goal.returns
-returns c = (c.verdict_of.ensures, c.finish-ended.ensures.left)
+pub returns-clause-verdict : goal.returns-clause-verdict
+returns-clause-verdict c = (c.verdict_of.ensures, c.finish-ended.ensures.ends.left)

@@ -26,13 +26,13 @@ overflow_add-result c =
       c.requires.1.within,
       pair_few m t c.requires.0.fine,
       c.close_judged-rounds.ensures.number,
-      rounds-few m (pair_shape m t c.requires.0.fine) (members c.args.state.now),
+      rounds-few m (pair_shape m t c.requires.0.fine) (members c.args.lent.now.state.now),
     )
 
-pub returns-in-Some : goal.returns-in-Some
-returns-in-Some c = ends-blocked _ _ c.requires.1 _ c.in-Some.is
+pub returns-in-Some-clause-ends : goal.returns-in-Some-clause-ends
+returns-in-Some-clause-ends c = ends-blocked _ _ c.requires.1 _ c.in-Some.is
 
-pub returns-in-None : goal.returns-in-None
-returns-in-None c =
+pub returns-in-None-clause-ends : goal.returns-in-None-clause-ends
+returns-in-None-clause-ends c =
     ends_asked _ _ c.requires.1 (pair_shape _ _ c.requires.0.fine) c.in-None.is c.close_judged-rounds.ensures
     c.ask.ensures

@@ -1,5 +1,5 @@
 -- The index is built, then the pair run by it.
-use Rattle.std.proofs.Common.{refl}
+use Rattle.std.proofs.Common.{refl, rules}
 use Rattle.files.proofs.Traces.{fine_pair}
 use Rattle.closing.specs.Closing.Way.{indexed}
 use Rattle.closing.proofs.Indexing.{cleared}
@@ -28,7 +28,7 @@ reach-reached-requires c =
 pub conclude-requires : goal.conclude-requires
 conclude-requires c =
     let index = c.build_index-n.ensures in
-    let led = c.reach-reached.ensures in (
+    let led = c.reach-reached.ensures.steps in (
       ready_on _ _ c.requires.0 led,
       steps-here _ _ led,
       c.goal_codes-codes.ensures,
@@ -37,9 +37,7 @@ conclude-requires c =
 
 pub returns : goal.returns
 returns c =
-    let led = c.reach-reached.ensures in
-    let (verdict, left) = c.conclude.ensures in (
-      verdict,
-      left-from led.kept led.names-kept led.as_long led.beyond left,
-      c.build_index-n.ensures.holds,
-    )
+    let led = c.reach-reached.ensures.steps in
+    let (verdict, left) = c.conclude.ensures.verdict in
+    let whole = left-from led.kept led.names-kept led.as_long led.beyond left in
+    (verdict, search rules, c.build_index-n.ensures.holds)

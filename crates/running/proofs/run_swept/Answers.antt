@@ -1,5 +1,5 @@
 -- With no entries lent for the index, states are closed by sweeps.
-use Rattle.std.proofs.Common.{refl}
+use Rattle.std.proofs.Common.{refl, rules}
 use Rattle.closing.specs.Closing.Way.{sweeps}
 use Rattle.reaching.specs.Reaching.{aimed}
 use Rattle.reaching.proofs.Aiming.{keeps_zeros}
@@ -19,11 +19,12 @@ reach-reached-requires c = (
 
 pub conclude-requires : goal.conclude-requires
 conclude-requires c =
-    let led = c.reach-reached.ensures in
+    let led = c.reach-reached.ensures.steps in
     (ready_on _ _ c.requires led, steps-here _ _ led, c.goal_codes-codes.ensures, sweeps refl)
 
 pub returns : goal.returns
 returns c =
-    let led = c.reach-reached.ensures in
-    let (verdict, left) = c.conclude.ensures in
-    (verdict, left-from led.kept led.names-kept led.as_long led.beyond left)
+    let led = c.reach-reached.ensures.steps in
+    let (verdict, left) = c.conclude.ensures.verdict in
+    let whole = left-from led.kept led.names-kept led.as_long led.beyond left in
+    (verdict, search rules)

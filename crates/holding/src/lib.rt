@@ -42,7 +42,7 @@ fn run_for(
 {
     let codes = reaching::goal_codes(model, trace);
     let mut kept = [0u8; 32];
-    let reached = reaching::reach(model, trace, codes, lent, &mut kept, index);
+    let reached = reaching::reach(model, trace, codes, lent, &mut kept, &index);
     match reached.stop {
         Some(c) => Err(conditions::refusal_of(c)),
         None => {

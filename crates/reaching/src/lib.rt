@@ -53,13 +53,13 @@ fn search(
     codes: &[u8],
     lent: &mut Buffers,
     kept: &mut [u8],
-    index: Index,
+    index: &Index,
 ) -> Steps
     requires { Ready model.now trace.now (lent_of lent.old)
         × (state_in (lent_of lent.old) ≡ start (model_of_lem model.now))
         × GoalCodes model.now (trace_of trace.now).goal codes.now
         × Keeps (aimed model.now trace.now) [] kept.old
-        × Way model.now index.entries.now index.ends.now index.starts.now }
+        × Way model.now index.now.entries.now index.now.ends.now index.now.starts.now }
     ensures same_buffers { SameBuffers lent.old lent.new }
     ensures steps { StepsTo model.now trace.now (lent_of lent.old) (lent_of lent.new) kept.new result }
 {
@@ -72,7 +72,7 @@ fn search(
     let mut rounds = 0;
     let mut stop = None;
     'search: for k in Numbers(&entries[2..]) {
-        rounds += closing::close_judged(model, state, table, index);
+        rounds += closing::close_judged(model, state, table, *index);
         let rule = held::record(model, Role::Rules, k);
         let lists = Lists {
             p: held::rule_list(model, rule, 0),
@@ -116,12 +116,12 @@ pub fn reach(
     codes: &[u8],
     lent: &mut Buffers,
     kept: &mut [u8],
-    index: Index,
+    index: &Index,
 ) -> Steps
     requires { Ready model.now trace.now (lent_of lent.old)
         × GoalCodes model.now (trace_of trace.now).goal codes.now
         × Keeps (aimed model.now trace.now) [] kept.old
-        × Way model.now index.entries.now index.ends.now index.starts.now }
+        × Way model.now index.now.entries.now index.now.ends.now index.now.starts.now }
     ensures same_buffers { SameBuffers lent.old lent.new }
     ensures steps { StepsTo model.now trace.now (lent_of lent.old) (lent_of lent.new) kept.new result }
 {

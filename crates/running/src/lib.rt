@@ -107,12 +107,12 @@ fn finish(
     reached: Steps,
     lent: &mut Buffers,
     kept: &mut [u8],
-    index: Index,
+    index: &Index,
 ) -> Ended
     requires { Ready model.now trace.now (lent_of lent.old)
         × StepsTo model.now trace.now (lent_of lent.old) (lent_of lent.old) kept.old reached
         × GoalCodes model.now (trace_of trace.now).goal codes.now
-        × Way model.now index.entries.now index.ends.now index.starts.now }
+        × Way model.now index.now.entries.now index.now.ends.now index.now.starts.now }
     ensures same_buffers { SameBuffers lent.old lent.new }
     ensures ends { EndsAs model.now trace.now (lent_of lent.old) (lent_of lent.new) result }
 {
@@ -126,7 +126,7 @@ fn finish(
             rounds: reached.rounds,
         },
         None => {
-            let rounds = closing::close_judged(model, state, table, index);
+            let rounds = closing::close_judged(model, state, table, *index);
             Ended {
                 ending: ask(model, trace, codes, table, names, kept),
                 step: reached.fired,
@@ -205,12 +205,12 @@ fn conclude(
     reached: Steps,
     lent: &mut Buffers,
     kept: &mut [u8],
-    index: Index,
+    index: &Index,
 ) -> Verdict
     requires { Ready model.now trace.now (lent_of lent.old)
         × StepsTo model.now trace.now (lent_of lent.old) (lent_of lent.old) kept.old reached
         × GoalCodes model.now (trace_of trace.now).goal codes.now
-        × Way model.now index.entries.now index.ends.now index.starts.now }
+        × Way model.now index.now.entries.now index.now.ends.now index.now.starts.now }
     ensures same_buffers { SameBuffers lent.old lent.new }
     ensures verdict { (result ≡ ran model.now trace.now (outcome model.now trace.now))
         × Left (model_of_lem model.now) (outcome model.now trace.now) (lent_of lent.old) (lent_of lent.new) }
@@ -251,8 +251,8 @@ pub fn run_swept(
         table,
         names,
     };
-    let reached = reaching::reach(model, trace, codes, &mut lent, &mut kept, index);
-    conclude(model, trace, codes, reached, &mut lent, &mut kept, index)
+    let reached = reaching::reach(model, trace, codes, &mut lent, &mut kept, &index);
+    conclude(model, trace, codes, reached, &mut lent, &mut kept, &index)
 }
 
 // Runs a judged pair, by an index of the model's clauses, which is built once for all states.
@@ -287,6 +287,6 @@ pub fn run_indexed(
         table,
         names,
     };
-    let reached = reaching::reach(model, trace, codes, &mut lent, &mut bits, index);
-    conclude(model, trace, codes, reached, &mut lent, &mut bits, index)
+    let reached = reaching::reach(model, trace, codes, &mut lent, &mut bits, &index);
+    conclude(model, trace, codes, reached, &mut lent, &mut bits, &index)
 }

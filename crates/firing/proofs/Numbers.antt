@@ -4,7 +4,7 @@ use mathlib.Core.Path.{◌≡◌, refl, sym, ap, ◌∙◌}
 use mathlib.Core.Bool.{Bool, true, false}
 use mathlib.Core.List.{List, [], ◌∷◌, ◌++◌, append_assoc, append-nil}
 use native.Mathlib.Omega.{arith}
-use lib.ListN.{length, drop, set, length-append}
+use lib.ListN.{length, drop, set, length-append, length-drop}
 use lib.Seq.{drop-cons, set_at}
 use Rattle.firing.specs.Firing.{numbers_of, Numbered}
 
@@ -30,7 +30,7 @@ module _ {A : Type 0} {p : A → Bool} {all : List A} where
 
   module _ {x : A} {rest : List A} {k n : ℕ} {before list : List ℕ} (l : Listing p all (x ∷ rest) k n before list) where
     -- There is room for one number more.
-    listing_room : length all ≤ length before → n < length before
+    pub listing_room : length all ≤ length before → n < length before
     listing_room h = omega (arith, l.few, l.left)
 
     -- An entry passes,
@@ -75,3 +75,10 @@ module _ {A : Type 0} {p : A → Bool} {all : List A} where
       let whole : numbers_of p 0 all ≡ l.done = l.whole ∙ append-nil l.done in
       let count : n ≡ length (numbers_of p 0 all) = l.count ∙ ap length (sym whole) in
       record { count = count; entries = l.front ∙ rw (← count, whole) }
+
+  -- The list stays as long as it was.
+  pub listing_long : {rest : List A} {k n : ℕ} {before list : List ℕ} → Listing p all rest k n before list
+      → length all ≤ length before → length list ≡ length before
+  listing_long {n = n} {before} l room =
+      ap length l.front
+      ∙ omega (arith, length-append l.done (drop n before), length-drop n before, l.count, l.few, l.left)

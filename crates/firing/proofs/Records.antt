@@ -1,20 +1,21 @@
 -- What the record of a judged model's rule tells: its lists, and whether it fires.
-use Prim.Native.Nat.{ℕ, ◌≤◌, ◌<◌}
+use Prim.Native.Nat.{ℕ, ◌+◌, ◌≤◌, ◌<◌}
 use mathlib.Core.Path.{◌≡◌, refl, sym, ap, ◌∙◌}
 use mathlib.Core.Bool.{Bool, true, false, not, ◌&&◌}
 use mathlib.Core.List.{List, map}
-use mathlib.Core.Option.{Option, none, some}
+use mathlib.Core.Option.{Option, none, some, none-ne-some}
 use native.Mathlib.Omega.{arith}
 use lib.Dec.{leb}
 use lib.ListN.{length, get_or, length-map}
 use Rattle.std.specs.Prelude.{Option as Found, Some, None, is_some}
+use borrow.Author.Tests.{eqb-true}
 use Rattle.sets.specs.Sets.{Facts, ◌∈◌}
 use Rattle.sets.proofs.Laws.{by-test}
 use Rattle.meaning.specs.Model.{Rule}
 use Rattle.meaning.specs.Run.{Condition, unmet}
 use Rattle.meaning.specs.Run.Condition.{positive, negative, unused}
-use Rattle.records.specs.Words.{words}
-use Rattle.records.specs.Records.{records, most, ◌or_else◌}
+use Rattle.records.specs.Words.{word, words}
+use Rattle.records.specs.Records.{records, most, whole, lists_of, ◌or_else◌}
 use Rattle.records.proofs.Words.{even-length}
 use Rattle.lists.specs.Lists.{Cut, AllCut, ListBytes}
 use Rattle.lists.proofs.Laws.{judged-count}
@@ -48,6 +49,13 @@ module _ (m : List ℕ) (fine : shape_fault m ≡ none) where
     pub rule-cut : Cut (rule_kind_lem (get_or m 0 0)) r
     unfolding AllCut
     rule-cut = rules-cut m fine r there
+
+    -- It is as long as its length says.
+    pub rule-long : length r ≡ 2 + word r
+    unfolding Cut lists_of whole
+    rule-long =
+        by-test (whole r) (λ e. eqb-true _ _ e)
+        (λ e. absurd (none-ne-some _ (rw (e, lists_of) at rule-cut.1)))
 
     pub list_known : (j : ℕ) → j < 3 → (bytes : List ℕ) → ListBytes (rule_kind_lem (get_or m 0 0)) r j bytes → Known bytes
     list_known j few bytes l = record {

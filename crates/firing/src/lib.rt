@@ -16,7 +16,7 @@ ghost use Rattle.checking.specs.Passing.{Passed};
 ghost use Rattle.firing.specs.Firing.{fires_by, numbers_of, Numbered, FiresIn};
 
 use files::{Counts, both, held};
-use records::{Records, Refusal};
+use records::Refusal;
 use sections::Role;
 use stepping::conditions;
 use stepping::conditions::Condition;
@@ -50,12 +50,20 @@ fn list_rules(model: &[u8], table: &[u16], names: &[u8], list: &mut [u16]) -> us
         (model_of_lem model.now).rules) list.old list.new result }
 {
     let rules = held::section(model, Role::Rules);
+    let mut at = 0;
+    let mut k: u16 = 0;
     let mut n = 0;
-    for (k, rule) in Records(rules).enumerate() {
+    while at < rules.len() {
+        let rule = records::record_at(rules, at);
+        // From its first bytes: the part's length comes of tests, for which the next place would wait. So it does in a
+        // `for` over `Records`, with which 2,048 rules take almost half as long again.
+        let size = 2 + records::word_at(rule, 0);
         if fires(model, rule, table, names) {
-            list[n] = k as u16;
+            list[n] = k;
             n += 1;
         }
+        at += size;
+        k += 1;
     }
     n
 }

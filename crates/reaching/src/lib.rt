@@ -110,6 +110,7 @@ pub fn goal_codes<'a>(model: &'a [u8], trace: &[u8]) -> &'a [u8]
 // Runs a judged pair's steps, from the initial state, to the last state reached. That one is closed where a step is
 // blocked in it, and not where all steps have fired. Each state is closed by the index where one is lent, else by
 // sweeps.
+// The index goes on by reference: three slices by value would take the check's stack over its limit.
 pub fn reach(
     model: &[u8],
     trace: &[u8],

@@ -10,3 +10,4 @@ pub mod Past
 pub mod Cases
 pub mod Versions
 pub mod WithIndex
+pub mod Unique

@@ -1,5 +1,6 @@
--- No two answers of the readers say the same in numbers, so that a contract which says what an answer is in numbers says
--- which it is. For answers with a fault or a refusal alone: `told_same`, `numbered_same` in Rattle.records.proofs.Laws.
+-- No two answers of the readers say the same in numbers, so that a contract which says what an answer is in numbers
+-- says which it is. For answers with a fault or a refusal alone: `told_same`, `numbered_same` in
+-- Rattle.records.proofs.Laws.
 use Prim.Native.Nat.{ℕ}
 use mathlib.Core.Path.{◌≡◌, refl, ap}
 use mathlib.Core.Option.{Option, none, some}

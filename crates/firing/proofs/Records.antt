@@ -74,7 +74,8 @@ nowhere none = true
 nowhere (some c) = false
 
 -- what an answer says of it
-pub answer-nowhere : (x : Found condition.the_data) {o : Option Condition} → unmet_in x ≡ o → not (is_some x) ≡ nowhere o
+pub answer-nowhere : (x : Found condition.the_data) {o : Option Condition} → unmet_in x ≡ o
+    → not (is_some x) ≡ nowhere o
 answer-nowhere None e = rw (← e)
 answer-nowhere (Some c) e = rw (← e)
 

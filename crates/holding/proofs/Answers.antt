@@ -93,7 +93,8 @@ module _ (m t : List ℕ) where
         let same : members after.state ≡ S = fun_ext s.facts in
         let done : WorksFor cs S g after.table table w = rw same at worked in
         record {
-          answers = rw by (ap₂ (λ n k. Ok (record { round = n; rounds = k })) (done.entries g low ∙ shown-asked cs S g) done.rounds);
+          answers = rw by (
+              ap₂ (λ n k. Ok (record { round = n; rounds = k })) (done.entries g low ∙ shown-asked cs S g) done.rounds);
           buffers = rw by (record {
             facts = s.facts;
             kept = s.kept;

@@ -8,8 +8,11 @@ use Rattle.meaning.specs.Run.{Ending, Outcome, asked_of}
 use Rattle.meaning.specs.Run.Ending.{attack, blocked, not_met, upheld}
 use Rattle.meaning.specs.Rounds.{round_number}
 use Rattle.files.specs.Files.{model_of_lem, trace_of}
+use Rattle.files.specs.Known.{GoalCodes}
+use Rattle.closing.specs.Closing.{Way}
 use Rattle.stepping.specs.Conditions.{condition_of}
-use Rattle.reaching.specs.Reaching.{Lent, Keeps}
+use Rattle.reaching.specs.Reaching.{Lent, Keeps, Ready, StepsTo}
+use Rattle.reaching.specs.declared.Steps.{Steps}
 use Rattle.running.specs.Outcomes.{outcome, Left}
 use Rattle.running.specs.declared.Ending.TheVariants as ending
 use Rattle.running.specs.declared.Ended.{Ended}
@@ -24,6 +27,15 @@ ending_of ending.Upheld = upheld
 -- the ending is what is asked of a state with the closure X, after whatever history this is kept of
 abbrev pub Asked : Aim → Facts → Facts → List ℕ → Ending → Type 0
 Asked aim X used kept e = (h : History) → Keeps aim h kept → e ≡ asked_of aim X used h
+
+-- what the end of a run relies on: a judged pair and room for it, what its steps led to, the codes of its goal and the
+-- way that closing takes
+pub record Led (m t codes : List ℕ) (lent : Lent) (bits : List ℕ) (r : Steps) (index ends starts : List ℕ)
+    : Type 0 where
+  pub ready : Ready m t lent
+  pub steps : StepsTo m t lent lent bits r
+  pub goal : GoalCodes m (trace_of t).goal codes
+  pub way : Way m index ends starts
 
 -- what the run has come to, with the facts held
 pub record Shows (o : Outcome) (steps : ℕ) (e : Ended) (held : ℕ) : Type 0 where

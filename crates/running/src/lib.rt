@@ -8,11 +8,11 @@ ghost use Rattle.std.proofs.Math.Option.{none};
 ghost use Rattle.meaning.specs.Run.{asked_of};
 ghost use Rattle.files.specs.Files.{pair_fault, model_of_lem, trace_of};
 ghost use Rattle.files.specs.Known.{GoalCodes};
-ghost use Rattle.closing.specs.Closing.{numbered, Way, IndexHolds, no_places_lem};
+ghost use Rattle.closing.specs.Closing.{numbered, IndexHolds, no_places_lem};
 ghost use Rattle.stepping.specs.Conditions.{names_in};
-ghost use Rattle.reaching.specs.Reaching.{Ready, lent_of, SameBuffers, aimed, StepsTo};
+ghost use Rattle.reaching.specs.Reaching.{Ready, lent_of, SameBuffers, aimed};
 ghost use Rattle.running.specs.Outcomes.{outcome, ran, Left};
-ghost use Rattle.running.specs.Running.{ending_of, Asked, Shows, Numbers, EndsAs};
+ghost use Rattle.running.specs.Running.{ending_of, Asked, Led, Shows, Numbers, EndsAs};
 
 use closing::Index;
 use files::{Part, held, trace};
@@ -23,8 +23,8 @@ use stepping::conditions;
 use stepping::conditions::{Condition, Lists};
 
 // Document 01's verdict: its number and the values that the line shows, and the part at fault. An unmet condition has a
-// kind, 1 positive or 2 negative, and a negative one the round in which its fact arose; 0 and 65,535 stand for none. All
-// are numbers, since C is handed them as they are.
+// kind, 1 positive or 2 negative, and a negative one the round in which its fact arose; 0 and 65,535 stand for none.
+// All are numbers, since C is handed them as they are.
 #[derive(Clone, Copy)]
 pub struct Verdict {
     pub number: u8,
@@ -109,10 +109,8 @@ fn finish(
     kept: &mut [u8],
     index: &Index,
 ) -> Ended
-    requires { Ready model.now trace.now (lent_of lent.old)
-        × StepsTo model.now trace.now (lent_of lent.old) (lent_of lent.old) kept.old reached
-        × GoalCodes model.now (trace_of trace.now).goal codes.now
-        × Way model.now index.now.entries.now index.now.ends.now index.now.starts.now }
+    requires { Led model.now trace.now codes.now (lent_of lent.old) kept.old reached
+        index.now.entries.now index.now.ends.now index.now.starts.now }
     ensures same_buffers { SameBuffers lent.old lent.new }
     ensures ends { EndsAs model.now trace.now (lent_of lent.old) (lent_of lent.new) result }
 {
@@ -207,10 +205,8 @@ fn conclude(
     kept: &mut [u8],
     index: &Index,
 ) -> Verdict
-    requires { Ready model.now trace.now (lent_of lent.old)
-        × StepsTo model.now trace.now (lent_of lent.old) (lent_of lent.old) kept.old reached
-        × GoalCodes model.now (trace_of trace.now).goal codes.now
-        × Way model.now index.now.entries.now index.now.ends.now index.now.starts.now }
+    requires { Led model.now trace.now codes.now (lent_of lent.old) kept.old reached
+        index.now.entries.now index.now.ends.now index.now.starts.now }
     ensures same_buffers { SameBuffers lent.old lent.new }
     ensures verdict { (result ≡ ran model.now trace.now (outcome model.now trace.now))
         × Left (model_of_lem model.now) (outcome model.now trace.now) (lent_of lent.old) (lent_of lent.new) }

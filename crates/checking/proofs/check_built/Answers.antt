@@ -23,7 +23,8 @@ pub run_indexed-requires : goal.run_indexed-requires
 run_indexed-requires c =
     let lent : Lent = record { state = c.args.state.now; table = c.args.table.now; names = c.args.names.now } in
     let fine = (blamed_ok _ _ _ (c.in-Ok.ensures ∙ steps-counted _ _ _ c.requires.counted)).0 in
-    (spacious lent c.requires.room (stages_fine _ _ c.requires.fine fine), sym c.no_places.ensures ∙ c.if-no_places.false)
+    let places = sym c.no_places.ensures ∙ c.if-no_places.false in
+    (spacious lent c.requires.room (stages_fine _ _ c.requires.fine fine), places)
 
 pub returns-in-Ok : goal.returns-in-Ok
 returns-in-Ok c =

@@ -8,15 +8,15 @@ pub verdict_of-requires : goal.verdict_of-requires
 verdict_of-requires c =
     let ended = c.finish-ended.ensures.ends in
     let table = ended.left.rounds in (
-      c.requires.0.fine,
+      c.requires.ready.fine,
       record {
         within = ended.within;
         ending = ended.ending;
         step = ended.step;
         rounds = ended.rounds;
-        held-is = held-is _ _ (pair_shape _ _ c.requires.0.fine) _ ended.left.facts c.count.ensures;
+        held-is = held-is _ _ (pair_shape _ _ c.requires.ready.fine) _ ended.left.facts c.count.ensures;
       },
-      record { long = omega (arith, table.as_long, c.requires.0.entries); entries = table.entries },
+      record { long = omega (arith, table.as_long, c.requires.ready.entries); entries = table.entries },
     )
 
 pub returns-clause-verdict : goal.returns-clause-verdict

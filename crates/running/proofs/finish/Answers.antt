@@ -7,13 +7,13 @@ use Rattle.running.proofs.Ends.{ends-blocked, ends_asked}
 use Rattle.running.proofs.finish.Goals as goal
 
 pub close_judged-rounds-requires : goal.close_judged-rounds-requires
-close_judged-rounds-requires c = (pair_shape _ _ c.requires.0.fine, c.requires.0.entries, c.requires.3)
+close_judged-rounds-requires c = (pair_shape _ _ c.requires.ready.fine, c.requires.ready.entries, c.requires.way)
 
 pub ask-requires : goal.ask-requires
 ask-requires c = (
-  c.requires.0.fine,
-  omega (arith, c.close_judged-rounds.ensures.filled.as_long, c.requires.0.entries),
-  c.requires.2,
+  c.requires.ready.fine,
+  omega (arith, c.close_judged-rounds.ensures.filled.as_long, c.requires.ready.entries),
+  c.requires.goal,
 )
 
 pub overflow_add-result : goal.overflow_add-result
@@ -22,17 +22,17 @@ overflow_add-result c =
     let t = c.args.trace.now in
     omega (
       arith,
-      c.requires.1.bound,
-      c.requires.1.within,
-      pair_few m t c.requires.0.fine,
+      c.requires.steps.bound,
+      c.requires.steps.within,
+      pair_few m t c.requires.ready.fine,
       c.close_judged-rounds.ensures.number,
-      rounds-few m (pair_shape m t c.requires.0.fine) (members c.args.lent.now.state.now),
+      rounds-few m (pair_shape m t c.requires.ready.fine) (members c.args.lent.now.state.now),
     )
 
 pub returns-in-Some-clause-ends : goal.returns-in-Some-clause-ends
-returns-in-Some-clause-ends c = ends-blocked _ _ c.requires.1 _ c.in-Some.is
+returns-in-Some-clause-ends c = ends-blocked _ _ c.requires.steps _ c.in-Some.is
 
 pub returns-in-None-clause-ends : goal.returns-in-None-clause-ends
 returns-in-None-clause-ends c =
-    ends_asked _ _ c.requires.1 (pair_shape _ _ c.requires.0.fine) c.in-None.is c.close_judged-rounds.ensures
+    ends_asked _ _ c.requires.steps (pair_shape _ _ c.requires.ready.fine) c.in-None.is c.close_judged-rounds.ensures
     c.ask.ensures

@@ -28,12 +28,13 @@ reach-reached-requires c =
 pub conclude-requires : goal.conclude-requires
 conclude-requires c =
     let index = c.build_index-n.ensures in
-    let led = c.reach-reached.ensures.steps in (
-      ready_on _ _ c.requires.0 led,
-      steps-here _ _ led,
-      c.goal_codes-codes.ensures,
-      indexed index.listed index.placed,
-    )
+    let led = c.reach-reached.ensures.steps in
+    record {
+      ready = ready_on _ _ c.requires.0 led;
+      steps = steps-here _ _ led;
+      goal = c.goal_codes-codes.ensures;
+      way = indexed index.listed index.placed;
+    }
 
 pub returns : goal.returns
 returns c =

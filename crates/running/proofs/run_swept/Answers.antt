@@ -20,7 +20,12 @@ reach-reached-requires c = (
 pub conclude-requires : goal.conclude-requires
 conclude-requires c =
     let led = c.reach-reached.ensures.steps in
-    (ready_on _ _ c.requires led, steps-here _ _ led, c.goal_codes-codes.ensures, sweeps refl)
+    record {
+      ready = ready_on _ _ c.requires led;
+      steps = steps-here _ _ led;
+      goal = c.goal_codes-codes.ensures;
+      way = sweeps refl;
+    }
 
 pub returns : goal.returns
 returns c =

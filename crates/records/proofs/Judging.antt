@@ -156,6 +156,24 @@ module _ (K : Kind) where
   pub first-none : (bytes : List ℕ) → length bytes < 2 + word bytes → lists_of K (record_of_lem bytes) ≡ none
   first-none bytes h = rw (record-rest bytes h) (lists-none K bytes (λ e. omega arith))
 
+-- That record is whole, and its lists are where its length says,
+pub first-whole : (bytes : List ℕ) → 2 + word bytes ≤ length bytes
+    → (whole (record_of_lem bytes) ≡ true) × (take (word bytes) (drop 2 bytes) ≡ drop 2 (record_of_lem bytes))
+unfolding whole word
+first-whole [] h = absurd (omega arith)
+first-whole (a ∷ []) h = absurd (omega arith)
+first-whole (a ∷ b ∷ rest) h =
+    let bytes = a ∷ b ∷ rest in
+    let size = word bytes in
+    let is : record_of_lem bytes ≡ a ∷ b ∷ take size rest = record-fits bytes h ∙ take-add 2 size bytes in
+    rw is (eq-eqb _ _ (omega (arith, length-take-le size rest (omega arith))), refl)
+
+-- and where its length doesn't fit, the bytes are a record that isn't whole.
+pub first-not-whole : (bytes : List ℕ) → length bytes < 2 + word bytes
+    → (record_of_lem bytes ≡ bytes) × (whole bytes ≡ false)
+unfolding whole
+first-not-whole bytes h = (record-rest bytes h, ne_eqb _ _ (λ e. omega arith))
+
 -- ---- a number as a byte
 
 -- a byte that is not 0 is the number

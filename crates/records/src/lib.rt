@@ -3,7 +3,7 @@
 #![tactic(auto)]
 
 ghost use Rattle.std.specs.Prelude.{◌≡◌, ◌+◌, ◌*◌, ◌<◌, ◌≤◌, Bool, true, false, not, ◌&&◌, List, ◌∷◌, leb, ltb, length, take, drop};
-ghost use Rattle.std.specs.Prelude.{MatchOption};
+ghost use Rattle.std.specs.Prelude.{ℕ, MatchOption};
 ghost use Rattle.std.specs.Iterator.{YieldsFirst, YieldsFirstBy, item_count};
 ghost use Rattle.std.specs.List.{list_any};
 ghost use Rattle.sets.specs.Sets.{any};
@@ -438,14 +438,16 @@ fn check_formula(codes: &[u8], facts: usize, marks: Marks) -> Result<(), Refusal
     }
 }
 
-// What is behind a record's length, where that fits.
-fn body_of(record: &[u8]) -> Option<&[u8]>
-    ensures { MatchOption result (whole record.now ≡ false)
-        (λ body. (whole record.now ≡ true) × (body.now ≡ drop 2 record.now)) }
+// What is behind the length of the record that bytes start with, and what is behind the record, where that length fits.
+fn split_body(bytes: &[u8]) -> Option<(&[u8], &[u8])>
+    ensures { let size = word bytes.now in
+        MatchOption result (length bytes.now < 2 + size) (λ p. (2 + size ≤ length bytes.now)
+        × (p.0.now ≡ take size (drop 2 bytes.now)) × (p.1.now ≡ drop (2 + size) bytes.now)) }
 {
-    let (size, body) = record.split_first_chunk::<2>()?;
-    if word_at(size, 0) == body.len() {
-        Some(body)
+    let (size, rest) = bytes.split_first_chunk::<2>()?;
+    let size = word_at(size, 0);
+    if size <= rest.len() {
+        Some(rest.split_at(size))
     } else {
         None
     }
@@ -470,13 +472,10 @@ fn beyond(kind: Kind, n: usize) -> Marks
     }
 }
 
-// Judges record n of its section.
-fn check_record(record: &[u8], kind: Kind, n: usize, facts: usize) -> Result<(), Refusal>
-    ensures { refused_by result ≡ judge kind facts n record.now }
+// Judges record n of its section, which is whole, by what is behind its length.
+fn check_body(body: &[u8], kind: Kind, n: usize, facts: usize) -> Result<(), Refusal>
+    ensures { (r : List ℕ) → (whole r ≡ true) × (body.now ≡ drop 2 r) → refused_by result ≡ judge kind facts n r }
 {
-    let Some(body) = body_of(record) else {
-        return Err(Refusal::Shape);
-    };
     let marks = beyond(kind, n);
     match kind {
         Kind::Clause => check_clause(body, facts, marks),
@@ -485,22 +484,31 @@ fn check_record(record: &[u8], kind: Kind, n: usize, facts: usize) -> Result<(),
     }
 }
 
-// The first fault of a section of records, or how many records it has.
+// The first fault of a section of records, or how many records it has. Over what is left, and not over `Records`, which
+// cuts a record before its length is looked at: short clauses take up to a third longer then.
 pub fn first_fault(section: &[u8], kind: Kind, facts: usize) -> Result<usize, Fault>
     ensures { let bytes = section.now in
         told result ≡ answer_or (first_fault_lem (judge kind facts) bytes) (length (records bytes)) }
 {
-    let mut at = 0;
+    let mut rest = section;
     let mut n = 0;
-    for record in Records(section) {
-        if let Err(refusal) = check_record(record, kind, n, facts) {
+    while !rest.is_empty() {
+        let start = section.len() - rest.len();
+        let Some((body, behind)) = split_body(rest) else {
+            return Err(Fault {
+                refusal: Refusal::Shape,
+                start,
+                size: rest.len(),
+            });
+        };
+        if let Err(refusal) = check_body(body, kind, n, facts) {
             return Err(Fault {
                 refusal,
-                start: at,
-                size: record.len(),
+                start,
+                size: 2 + body.len(),
             });
         }
-        at += record.len();
+        rest = behind;
         n += 1;
     }
     Ok(n)

@@ -4,7 +4,7 @@ ghost use Rattle.std.proofs.Math.Option.{none};
 ghost use Rattle.sections.specs.Sections.{in_section, reader};
 ghost use Rattle.sections.specs.declared.Role.{Role};
 ghost use Rattle.records.specs.Refusals.{told, answer_or};
-ghost use Rattle.files.specs.Files.{roles, fact_count, shape_fault, model_fault};
+ghost use Rattle.files.specs.Files.{roles, tag, fact_count, shape_fault, model_fault};
 ghost use Rattle.files.specs.Answers.{counts_of, noted};
 
 use super::Counts;
@@ -53,6 +53,23 @@ pub fn sections_of(version: u8) -> &'static [Role]
             Role::Goals,
             Role::Formulas,
         ]
+    }
+}
+
+// A role's place in the order of the documents, over all versions.
+#[tactic(auto, unfolding(crate::specs::Files::tag))]
+pub fn tag_of(role: Role) -> usize
+    ensures { result ≡ tag role }
+{
+    match role {
+        Role::Sizes => 0,
+        Role::Initial => 1,
+        Role::Persistent => 2,
+        Role::Names => 3,
+        Role::Clauses => 4,
+        Role::Rules => 5,
+        Role::Goals => 6,
+        Role::Formulas => 7,
     }
 }
 

@@ -54,12 +54,12 @@ number_after cs S r f = cond (round cs S r f) (first (λ q. round cs S q f) r) 6
 
 module _ (cs : List Clause) (S : Facts) where
   -- At the start they are those of round 0.
-  number-start : (f : ℕ) → stored S f ≡ number_after cs S 0 f
+  pub number-start : (f : ℕ) → stored S f ≡ number_after cs S 0 f
   unfolding stored number_after
   number-start f = refl
 
   -- After the last round they are the round numbers.
-  number-last : (f : ℕ) → number_after cs S (rounds cs S) f ≡ round_number cs S f
+  pub number-last : (f : ℕ) → number_after cs S (rounds cs S) f ≡ round_number cs S f
   unfolding number_after round_number
   number-last f = refl
 
@@ -140,7 +140,7 @@ module _ (cs : List Clause) (S : Facts) (b : Bounded cs) (r : ℕ) (fits : r < 6
   stands-is c m = every-same (up_to table r) (round cs S r) c.body (λ x i. up_to_is x (b.bodies c m x i))
 
   -- After a sweep it holds those of the next round.
-  swept-is : (f : ℕ) → f < 4096 → swept cs r table f ≡ number_after cs S (suc r) f
+  pub swept-is : (f : ℕ) → f < 4096 → swept cs r table f ≡ number_after cs S (suc r) f
   unfolding swept
   swept-is f l =
       rw (outside-is f l, holds f l, add-one)
@@ -149,7 +149,7 @@ module _ (cs : List Clause) (S : Facts) (b : Bounded cs) (r : ℕ) (fits : r < 6
       ∙ number-next cs S r f)
 
   -- The sweep adds a head exactly if round r doesn't obey the clauses.
-  adds-is : adds cs r table ≡ not (obeys cs (round cs S r))
+  pub adds-is : adds cs r table ≡ not (obeys cs (round cs S r))
   unfolding adds obeys
   adds-is =
       any-fails _ _ cs
@@ -166,17 +166,17 @@ module _ (cs : List Clause) (S : Facts) (b : Bounded cs) (r : ℕ) (fits : r < 6
 
 module _ (cs : List Clause) (S : Facts) (r : ℕ) (within : r ≤ rounds cs S) where
   -- A round that doesn't obey the clauses is not the last one.
-  not_last : obeys cs (round cs S r) ≡ false → r < rounds cs S
+  pub not_last : obeys cs (round cs S r) ≡ false → r < rounds cs S
   unfolding closure
   not_last e =
       elim (eq-or-lt_of_le within) [ inl i ↦ absurd (true≢false (sym (closure-obeys cs S) ∙ rw (← i) e)) | inr l ↦ l ]
 
   -- A round that obeys them is.
-  is_last : obeys cs (round cs S r) ≡ true → r ≡ rounds cs S
+  pub is_last : obeys cs (round cs S r) ≡ true → r ≡ rounds cs S
   is_last e = elim (eq-or-lt_of_le within) [ inl i ↦ i | inr l ↦ absurd (true≢false (sym e ∙ rounds-before cs S r l)) ]
 
   -- The numbers that one more sweep then leaves are the round numbers.
-  number-end : obeys cs (round cs S r) ≡ true → (f : ℕ) → number_after cs S (suc r) f ≡ round_number cs S f
+  pub number-end : obeys cs (round cs S r) ≡ true → (f : ℕ) → number_after cs S (suc r) f ≡ round_number cs S f
   unfolding round
   number-end e f =
       number-still cs S r f ((next-obeys cs (round cs S r)).0 e f) ∙ ap (λ (q : ℕ). number_after cs S q f) (is_last e)

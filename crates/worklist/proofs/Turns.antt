@@ -166,11 +166,11 @@ module _ {cs : List Clause} {S : Facts} (known : Known cs S) {g at c : ℕ} {a :
     within : Within cs S b.had f (entries_from_lem 0 cs f) (said a (suc at) c)
     within = take-first known b.toward.sound first-waits
 
-    first-low : f < 4096
+    pub first-low : f < 4096
     first-low = b.fits.low at h
 
     -- Its number fits.
-    first-few : get_or a.table f 0 ≤ 4096
+    pub first-few : get_or a.table f 0 ≤ 4096
     first-few =
         let few = arrived-few known b.toward.sound.arrived f
         (Memᴰ.append_right b.had (rw first-waits (Memᴰ.head refl))) in
